@@ -1,0 +1,63 @@
+-- The order of lists of classes: it is strict and total, and lists that are the same are equal.
+use Rattle.std.proofs.Common.{◌≡◌, ℕ, Bool, true, false, List, [], ◌∷◌, eqb, ltb, ◌&&◌, ◌||◌, refl, sym, ap, ◌∙◌, inl, inr, arith, IsTrue}
+use Rattle.std.specs.Prelude.{◌⊎◌}
+use Rattle.std.proofs.lemmas.Bool.{ltb-true, ltb-false, eqb-true, eqb-false, eq-eqb, lt-ltb, and_parts, or_cases, cases_order}
+use Rattle.std.proofs.lemmas.Bool.Decides.{nat_tests}
+use Rattle.dt_definitions.specs.Program.{same_classes, are_classes_before}
+
+pub same-refl : (xs : List ℕ) → IsTrue (same_classes xs xs)
+same-refl [] = refl
+same-refl (x ∷ xs) = let e = eq-eqb x x refl in let r = same-refl xs in rw (e, r) refl
+
+pub same-equal : (xs ys : List ℕ) → IsTrue (same_classes xs ys) → xs ≡ ys
+same-equal [] [] s = refl
+same-equal [] (y ∷ ys) s = cc
+same-equal (x ∷ xs) [] s = cc
+same-equal (x ∷ xs) (y ∷ ys) s =
+    let p = and_parts (eqb x y) (same_classes xs ys) s in
+    let e = eqb-true x y p.0 in let r = same-equal xs ys p.1 in cc
+
+-- a list isn't before itself
+pub before-irrefl : (xs : List ℕ) → are_classes_before xs xs ≡ false
+before-irrefl [] = refl
+before-irrefl (x ∷ xs) = let r = before-irrefl xs in grind (arith, nat_tests)
+
+pub before-trans : (xs ys zs : List ℕ)
+    → IsTrue (are_classes_before xs ys) → IsTrue (are_classes_before ys zs) → IsTrue (are_classes_before xs zs)
+before-trans [] [] zs p q = cc
+before-trans [] (y ∷ ys) [] p q = cc
+before-trans [] (y ∷ ys) (z ∷ zs) p q = refl
+before-trans (x ∷ xs) [] zs p q = cc
+before-trans (x ∷ xs) (y ∷ ys) [] p q = cc
+before-trans (x ∷ xs) (y ∷ ys) (z ∷ zs) p q =
+    let r = before-trans xs ys zs in grind (arith, nat_tests)
+
+-- of two lists one is before the other, or they are the same
+pub before-total : (xs ys : List ℕ)
+    → are_classes_before xs ys ≡ false → same_classes xs ys ≡ false → IsTrue (are_classes_before ys xs)
+before-total [] [] b s = cc
+before-total [] (y ∷ ys) b s = cc
+before-total (x ∷ xs) [] b s = refl
+before-total (x ∷ xs) (y ∷ ys) b s =
+    let r = before-total xs ys in grind (arith, nat_tests)
+
+-- not both ways
+pub before-asym : (xs ys : List ℕ) → IsTrue (are_classes_before xs ys) → are_classes_before ys xs ≡ false
+before-asym [] [] p = refl
+before-asym [] (y ∷ ys) p = refl
+before-asym (x ∷ xs) [] p = cc
+before-asym (x ∷ xs) (y ∷ ys) p =
+    let r = before-asym xs ys in grind (arith, nat_tests)
+
+pub before-differs : (xs ys : List ℕ) → IsTrue (are_classes_before xs ys) → same_classes xs ys ≡ false
+before-differs [] [] p = cc
+before-differs [] (y ∷ ys) p = refl
+before-differs (x ∷ xs) [] p = cc
+before-differs (x ∷ xs) (y ∷ ys) p =
+    let r = before-differs xs ys in grind (arith, nat_tests)
+
+pub same-sym : (xs ys : List ℕ) → same_classes xs ys ≡ same_classes ys xs
+same-sym [] [] = refl
+same-sym [] (y ∷ ys) = refl
+same-sym (x ∷ xs) [] = refl
+same-sym (x ∷ xs) (y ∷ ys) = let r = same-sym xs ys in grind (arith, nat_tests)

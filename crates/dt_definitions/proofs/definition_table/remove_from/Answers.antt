@@ -1,0 +1,22 @@
+use Rattle.std.proofs.Common.{◌≡◌, ◌+◌, ◌<◌, length, is_some, sym, ap, ◌∙◌, arith}
+use Rattle.dt_definitions.specs.DefinitionRows.{definitions_from}
+use Rattle.dt_definitions.proofs.Rows.{remove_row}
+use Rattle.dt_definitions.proofs.TableChanges.{room_same, body_from_rows, some_body}
+use Rattle.dt_definitions.proofs.definition_table.remove_from.Goals as goal
+
+pub returns-clause-after : goal.returns-clause-after
+returns-clause-after c =
+    remove_row c.args.rows.now.items 0 c.number.result c.args.selector c.args.classes.now c.index_mut.result.now c.remove.new.self
+    (omega (arith, c.number.ensures.value)) (omega (arith, c.requires, c.number.ensures.in_range)) c.index_mut.ensures.value
+    (c.remove.ensures.after c.args.selector)
+
+pub returns-clause-was_there : goal.returns-clause-was_there
+returns-clause-was_there c =
+    let rows = c.args.rows.now.items in
+    let same = body_from_rows rows c.number.result c.args.selector c.args.classes.now c.index_mut.result.now
+    (sym c.number.ensures.value) (omega (arith, c.requires, c.number.ensures.in_range)) c.index_mut.ensures.value in
+    c.remove.ensures.was_there ∙ ap is_some same ∙ some_body c.args.selector c.args.classes.now (definitions_from 0 rows)
+
+pub returns-clause-room_stays : goal.returns-clause-room_stays
+returns-clause-room_stays c =
+    room_same c.args.rows.now.items c.number.result c.index_mut.result.now c.remove.new.self c.index_mut.ensures.value c.remove.ensures.room_stays

@@ -1,0 +1,78 @@
+-- How the definitions are kept: a row for each selector, in ascending order of class lists.
+use Rattle.std.specs.Prelude.{◌≡◌, ℕ, suc, ◌+◌, ◌<◌, if◌then◌else◌, IsTrue, List, [], ◌∷◌, ◌++◌, length, Option, None, IsSome, Result, Ok, Err, map, filter, find, slice_index}
+use Rattle.std.specs.List.{HoldsAt}
+use Rattle.std.specs.Option.{option_map}
+use Rattle.dt_graph.specs.Graph.{has_number}
+use Rattle.dt_graph.specs.declared.limits.TheConstants.{CLASSES}
+use Rattle.dt_selectors.specs.declared.limits.TheConstants.{SELECTORS}
+use Rattle.dt_definitions.specs.Lawful.{AscendingDefinitions}
+use Rattle.dt_definitions.specs.Program.{Definition, same_classes, are_classes_before}
+use Rattle.dt_definitions.specs.declared.defined.Defined.{Defined}
+
+-- a selector's definitions, and how many of them there is room for without more memory
+pub record DefinitionRow : Type 0 where
+  pub defined : List Defined
+  pub room : ℕ
+
+-- the definitions of all selectors, and for each selector how many of its definitions there is room for
+pub record Definitions : Type 0 where
+  pub all : List Definition
+  pub rooms : List ℕ
+
+-- the definition, with its selector put back
+abbrev pub definition_of : ℕ → Defined → Definition
+definition_of selector d = record { selector = selector; classes = d.classes; body = d.body }
+
+abbrev pub with_selector : ℕ → List Defined → List Definition
+with_selector selector row = map (definition_of selector) row
+
+-- the definitions of the rows, of which the first is this selector's
+abbrev pub definitions_from : ℕ → List DefinitionRow → List Definition
+definitions_from selector [] = []
+definitions_from selector (row ∷ rows) = with_selector selector row.defined ++ definitions_from (selector + 1) rows
+
+abbrev pub rooms_of : List DefinitionRow → List ℕ
+rooms_of rows = map (λ row. row.room) rows
+
+-- the classes stand before those of every definition of the row
+abbrev pub StandsBefore : List ℕ → List Defined → Type 0
+StandsBefore classes [] = Unit {0}
+StandsBefore classes (d ∷ row) = IsTrue (are_classes_before classes d.classes) × StandsBefore classes row
+
+-- each definition of the row stands before those that follow
+abbrev pub RowAscends : List Defined → Type 0
+RowAscends [] = Unit {0}
+RowAscends (d ∷ row) = StandsBefore d.classes row × RowAscends row
+
+-- the first place of the row, from 0, whose classes don't stand before these
+abbrev pub first_place : List ℕ → List Defined → ℕ
+first_place classes [] = 0
+first_place classes (d ∷ row) = if are_classes_before d.classes classes then suc (first_place classes row) else 0
+
+-- the body at these classes, if they are defined in the row
+abbrev pub body_in : List Defined → List ℕ → Option ℕ
+body_in row classes = option_map (λ d. d.body) (find (λ d. same_classes d.classes classes) row)
+
+-- what a search for the classes answers: their place, or else the place at which they would stand
+abbrev pub Searched : List Defined → List ℕ → Result ℕ ℕ → Type 0
+Searched row classes (Ok place) =
+    (place ≡ first_place classes row) × (place < length row)
+    × HoldsAt (λ d. IsTrue (same_classes d.classes classes)) row place × IsSome (body_in row classes)
+Searched row classes (Err place) = (place ≡ first_place classes row) × (body_in row classes ≡ None)
+
+-- no row has a definition
+abbrev pub NoneDefined : List DefinitionRow → Type 0
+NoneDefined [] = Unit {0}
+NoneDefined (row ∷ rows) = (row.defined ≡ []) × NoneDefined rows
+
+-- how many definitions name the class
+abbrev pub naming_count : ℕ → List Definition → ℕ
+naming_count class definitions = length (filter (λ d. has_number d.classes class) definitions)
+
+-- what holds of a table: a row for each selector; the number of definitions; for each class how many name it
+pub record TableKept (rows : List DefinitionRow) (count : ℕ) (named : List ℕ) : Type 0 where
+  pub all_selectors : length rows ≡ SELECTORS
+  pub counted : count ≡ length (definitions_from 0 rows)
+  pub all_classes : length named ≡ CLASSES
+  pub names_counted : (class : ℕ) → class < CLASSES → slice_index named class ≡ naming_count class (definitions_from 0 rows)
+  pub ascends : AscendingDefinitions (definitions_from 0 rows)

@@ -1,0 +1,29 @@
+-- What holds of every program that edits make, beginning with the empty one.
+use Rattle.std.specs.Prelude.{◌≡◌, ◌<◌, ◌≤◌, IsTrue, List, [], ◌∷◌, length, Some, All}
+use Rattle.dt_graph.specs.Graph.{is_live}
+use Rattle.dt_graph.specs.Lawful.{LawfulGraph}
+use Rattle.dt_selectors.specs.Lawful.{LawfulSelectors}
+use Rattle.dt_selectors.specs.declared.limits.TheConstants.{BODIES}
+use Rattle.dt_definitions.specs.Program.{Definition, Program, arity_of, is_definition_before}
+use Rattle.dt_definitions.specs.declared.limits.TheConstants.{DEFINITIONS}
+
+-- each definition stands before the next
+abbrev pub AscendingDefinitions : List Definition → Type 0
+AscendingDefinitions [] = Unit {0}
+AscendingDefinitions (a ∷ []) = Unit {0}
+AscendingDefinitions (a ∷ b ∷ definitions) =
+    IsTrue (is_definition_before a b) × AscendingDefinitions (b ∷ definitions)
+
+-- a definition's selector is live with as many places as the definition has classes, and these classes are live
+pub record LawfulDefinition (program : Program) (d : Definition) : Type 0 where
+  pub arity_fits : arity_of program d.selector ≡ Some (length d.classes)
+  pub classes_live : All (λ class. IsTrue (is_live program.graph class)) d.classes
+  pub body_in_range : d.body < BODIES
+
+-- a lawful program
+pub record Lawful (program : Program) : Type 0 where
+  pub graph : LawfulGraph program.graph
+  pub selectors : LawfulSelectors program.selectors
+  pub definitions_ascend : AscendingDefinitions program.definitions
+  pub definitions_lawful : All (LawfulDefinition program) program.definitions
+  pub few_definitions : length program.definitions ≤ DEFINITIONS

@@ -1,0 +1,194 @@
+ghost use Rattle.std.specs.Prelude.{◌≡◌, ◌==◌, ℕ, ◌+◌, ◌^◌, ◌<◌, ◌≤◌, [], length, filter, not, if◌then◌else◌, slice_index, IsTrue, IfOk, OnOk, OnErr};
+ghost use Rattle.std.specs.List.{list_any};
+ghost use Rattle.dt_graph.specs.Graph.{has_number};
+ghost use Rattle.dt_definitions.specs.declared.limits.TheConstants.{DEFINITIONS};
+ghost use Rattle.dt_definitions.specs.Program.{is_definition, place_definition, body_of};
+ghost use Rattle.dt_definitions.specs.DefinitionRows.{with_selector, definitions_from, rooms_of, NoneDefined};
+
+use crate::defined::Defined;
+use crate::row::Row;
+use crate::tuple::Tuple;
+use dt_graph::{CLASSES, ClassNo, NoMemory};
+use dt_selectors::{BodyNo, SELECTORS, SelNo};
+use std::alloc::Global;
+use std::marker::Model;
+
+/// The definitions of a program, each in the row of its selector.
+#[derive(Debug, Drop)]
+pub(crate) struct DefinitionTable {
+    rows: Vec<Row>,
+    count: u32,
+    // For each class, how many definitions name it.
+    named: Vec<u32>,
+}
+
+impl Model for DefinitionTable {
+    ghost use Rattle.dt_definitions.specs.DefinitionRows.{Definitions, definitions_from, rooms_of, TableKept};
+
+    ghost Value = { Definitions };
+
+    ghost view = { λ t. record { all = definitions_from 0 t.rows.items; rooms = rooms_of t.rows.items } };
+
+    ghost invariant = { λ t. TableKept t.rows.items t.count t.named.items };
+}
+
+/// A row for each selector, none with a definition.
+fn empty_rows(alloc: Global) -> Result<Vec<Row>, NoMemory>
+    ensures { IfOk result (λ rows. (length rows.items ≡ SELECTORS) × NoneDefined rows.items) }
+{
+    let mut rows = Vec::with_capacity(alloc, SELECTORS as usize)?;
+    for _ in 0..SELECTORS {
+        rows.push(Row::new(alloc))?;
+    }
+    Ok(rows)
+}
+
+/// One more for each class of the list, however often it stands there.
+fn count_in(named: &mut [u32], classes: &[ClassNo])
+    requires all_classes { length named.old ≡ CLASSES }
+    requires room { (class : ℕ) → class < CLASSES → slice_index named.old class < 2 ^ 31 }
+    ensures { (class : ℕ) → slice_index named.new class
+        ≡ slice_index named.old class + (if has_number classes.now class then 1 else 0) }
+{
+    for (place, class) in classes.iter().enumerate() {
+        if !classes[..place].contains(class) {
+            named[class.number() as usize] += 1;
+        }
+    }
+}
+
+/// One less for each class of the list, however often it stands there.
+fn count_out(named: &mut [u32], classes: &[ClassNo])
+    requires all_classes { length named.old ≡ CLASSES }
+    requires counted { (class : ℕ) → class < CLASSES → IsTrue (has_number classes.now class) → 0 < slice_index named.old class }
+    ensures { (class : ℕ) → slice_index named.new class + (if has_number classes.now class then 1 else 0)
+        ≡ slice_index named.old class }
+{
+    for (place, class) in classes.iter().enumerate() {
+        if !classes[..place].contains(class) {
+            named[class.number() as usize] -= 1;
+        }
+    }
+}
+
+/// Puts the definition into the row of its selector; answers whether it was new.
+fn put_in(
+    rows: &mut Vec<Row>,
+    selector: SelNo,
+    classes: Tuple,
+    body: BodyNo,
+) -> Result<bool, NoMemory>
+    requires { length rows.old.items ≡ SELECTORS }
+    ensures ok { OnOk result (definitions_from 0 rows.new.items
+        ≡ place_definition (record { selector = selector; classes = classes; body = body }) (definitions_from 0 rows.old.items)) }
+    ensures is_new { IfOk result (λ is_new. is_new ≡ not (list_any (is_definition selector classes) (definitions_from 0 rows.old.items))) }
+    ensures err { OnErr result (definitions_from 0 rows.new.items ≡ definitions_from 0 rows.old.items) }
+    ensures all_selectors { length rows.new.items ≡ SELECTORS }
+    ensures room_stays { (s : ℕ) → slice_index (rooms_of rows.old.items) s ≤ slice_index (rooms_of rows.new.items) s }
+    ensures full { OnErr result (slice_index (rooms_of rows.old.items) selector
+        ≤ length (filter (λ d. d.selector == selector) (definitions_from 0 rows.old.items))) }
+{
+    rows[selector.number() as usize].put(classes, body)
+}
+
+/// Takes the definition out of the row of its selector; answers whether it was there.
+fn remove_from(rows: &mut Vec<Row>, selector: SelNo, classes: &[ClassNo]) -> bool
+    requires { length rows.old.items ≡ SELECTORS }
+    ensures after { definitions_from 0 rows.new.items
+        ≡ filter (λ d. not (is_definition selector classes.now d)) (definitions_from 0 rows.old.items) }
+    ensures was_there { result ≡ list_any (is_definition selector classes.now) (definitions_from 0 rows.old.items) }
+    ensures all_selectors { length rows.new.items ≡ SELECTORS }
+    ensures room_stays { rooms_of rows.new.items ≡ rooms_of rows.old.items }
+{
+    rows[selector.number() as usize].remove(classes)
+}
+
+impl DefinitionTable {
+    /// A table with no definition.
+    pub(crate) fn new(alloc: Global) -> Result<DefinitionTable, NoMemory>
+        ensures { IfOk result (λ table. table.all ≡ []) }
+    {
+        let rows = empty_rows(alloc)?;
+        let named = vec![in alloc; 0; CLASSES as usize]?;
+        Ok(DefinitionTable {
+            rows,
+            count: 0,
+            named,
+        })
+    }
+
+    /// How many definitions there are.
+    pub(crate) fn len(&self) -> u32
+        ensures { result ≡ length self.now.all }
+    {
+        self.count
+    }
+
+    /// The selector's definitions.
+    pub(crate) fn of(&self, selector: SelNo) -> &[Defined]
+        ensures { with_selector selector result.now ≡ filter (λ d. d.selector == selector) self.now.all }
+    {
+        self.rows[selector.number() as usize].as_slice()
+    }
+
+    /// Whether the selector has a definition.
+    pub(crate) fn is_defined(&self, selector: SelNo) -> bool
+        ensures { result ≡ list_any (λ d. d.selector == selector) self.now.all }
+    {
+        !self.of(selector).is_empty()
+    }
+
+    /// Whether a definition names the class.
+    pub(crate) fn names(&self, class: ClassNo) -> bool
+        ensures { result ≡ list_any (λ d. has_number d.classes class) self.now.all }
+    {
+        self.named[class.number() as usize] > 0
+    }
+
+    /// The body of the selector at these classes; `None` exactly where they aren't defined.
+    pub(crate) fn body(&self, selector: SelNo, classes: &[ClassNo]) -> Option<BodyNo>
+        ensures { result ≡ body_of self.now.all selector classes.now }
+    {
+        self.rows[selector.number() as usize].body(classes)
+    }
+
+    /// Whether the selector is defined at these classes.
+    pub(crate) fn has(&self, selector: SelNo, classes: &[ClassNo]) -> bool
+        ensures { result ≡ list_any (is_definition selector classes.now) self.now.all }
+    {
+        self.body(selector, classes).is_some()
+    }
+
+    /// Gives the selector this body at these classes, in place of one that it has there.
+    pub(crate) fn put(
+        &mut self,
+        selector: SelNo,
+        classes: Tuple,
+        body: BodyNo,
+    ) -> Result<(), NoMemory>
+        requires { length self.old.all ≤ DEFINITIONS }
+        ensures ok { OnOk result (self.new.all
+            ≡ place_definition (record { selector = selector; classes = classes; body = body }) self.old.all) }
+        ensures err { OnErr result (self.new.all ≡ self.old.all) }
+        ensures room_stays { (s : ℕ) → slice_index self.old.rooms s ≤ slice_index self.new.rooms s }
+        ensures full { OnErr result (slice_index self.old.rooms selector
+            ≤ length (filter (λ d. d.selector == selector) self.old.all)) }
+    {
+        if put_in(&mut self.rows, selector, classes, body)? {
+            self.count += 1;
+            count_in(&mut self.named, classes.classes());
+        }
+        Ok(())
+    }
+
+    /// Takes the selector's definition at these classes away, if it is there.
+    pub(crate) fn remove(&mut self, selector: SelNo, classes: &[ClassNo])
+        ensures after { self.new.all ≡ filter (λ d. not (is_definition selector classes.now d)) self.old.all }
+        ensures room_stays { self.new.rooms ≡ self.old.rooms }
+    {
+        if remove_from(&mut self.rows, selector, classes) {
+            self.count -= 1;
+            count_out(&mut self.named, classes);
+        }
+    }
+}

@@ -1,0 +1,96 @@
+ghost use Rattle.std.specs.Prelude.{◌≡◌, IfOk};
+
+use crate::parents::Parents;
+use crate::tuple::Tuple;
+use dt_graph::{ClassNo, NoMemory};
+use dt_selectors::{Arity, BodyNo, SelNo};
+
+/// A change of a program.
+#[derive(Debug, Drop)]
+pub enum Edit {
+    /// A new class with these parents.
+    AddClass {
+        class: ClassNo,
+        parents: Parents,
+    },
+    /// A class goes.
+    DropClass {
+        class: ClassNo,
+    },
+    /// The class gets one more parent.
+    Link {
+        class: ClassNo,
+        parent: ClassNo,
+    },
+    /// The class loses a parent.
+    Unlink {
+        class: ClassNo,
+        parent: ClassNo,
+    },
+    /// A new selector with this arity.
+    AddSelector {
+        selector: SelNo,
+        arity: Arity,
+    },
+    /// A selector goes.
+    DropSelector {
+        selector: SelNo,
+    },
+    /// The selector gets this body at these classes; the body that it had there is replaced.
+    Define {
+        selector: SelNo,
+        classes: Tuple,
+        body: BodyNo,
+    },
+    /// The selector loses its body at these classes.
+    Undefine {
+        selector: SelNo,
+        classes: Tuple,
+    },
+}
+
+impl Edit {
+    /// An equal edit.
+    pub(crate) fn copy(&self) -> Result<Edit, NoMemory>
+        ensures { IfOk result (λ edit. edit ≡ self.now) }
+    {
+        match self {
+            Edit::AddClass { class, parents } => {
+                let parents = parents.copy()?;
+                Ok(Edit::AddClass {
+                    class: *class,
+                    parents,
+                })
+            }
+            Edit::DropClass { class } => Ok(Edit::DropClass { class: *class }),
+            Edit::Link { class, parent } => Ok(Edit::Link {
+                class: *class,
+                parent: *parent,
+            }),
+            Edit::Unlink { class, parent } => Ok(Edit::Unlink {
+                class: *class,
+                parent: *parent,
+            }),
+            Edit::AddSelector { selector, arity } => Ok(Edit::AddSelector {
+                selector: *selector,
+                arity: *arity,
+            }),
+            Edit::DropSelector { selector } => Ok(Edit::DropSelector {
+                selector: *selector,
+            }),
+            Edit::Define {
+                selector,
+                classes,
+                body,
+            } => Ok(Edit::Define {
+                selector: *selector,
+                classes: *classes,
+                body: *body,
+            }),
+            Edit::Undefine { selector, classes } => Ok(Edit::Undefine {
+                selector: *selector,
+                classes: *classes,
+            }),
+        }
+    }
+}

@@ -1,0 +1,24 @@
+//! Programs of classes, selectors and definitions, and the edits that change them.
+#![tactic(auto)]
+
+mod batch;
+mod defined;
+mod definition_table;
+mod edit;
+mod limits;
+mod parents;
+mod program;
+mod row;
+mod tuple;
+mod why;
+
+pub use batch::Batch;
+pub use defined::Defined;
+pub use dt_graph::{CLASSES, ClassGraph, ClassNo, NoMemory, PARENTS};
+pub use dt_selectors::{Arity, BODIES, BodyNo, SELECTORS, SelNo};
+pub use edit::Edit;
+pub use limits::DEFINITIONS;
+pub use parents::Parents;
+pub use program::Program;
+pub use tuple::Tuple;
+pub use why::{ApplyFault, BatchFault, Why};

@@ -1,0 +1,2 @@
+/// How many definitions a program may have.
+pub const DEFINITIONS: u32 = 65_536;

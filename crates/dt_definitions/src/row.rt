@@ -1,0 +1,153 @@
+ghost use Rattle.std.specs.Prelude.{◌≡◌, ℕ, ◌≤◌, [], length, filter, not, is_some, is_none, IfOk, OnErr, OnOk};
+ghost use Rattle.dt_definitions.specs.Program.{same_classes, are_classes_before, place_definition, is_definition};
+ghost use Rattle.dt_definitions.specs.DefinitionRows.{RowAscends, with_selector, first_place, body_in, Searched};
+
+use crate::defined::Defined;
+use crate::tuple::Tuple;
+use dt_graph::{ClassNo, NoMemory};
+use dt_selectors::BodyNo;
+use std::alloc::Global;
+use std::marker::Model;
+
+/// The definitions of one selector, in ascending order of their classes.
+#[derive(Debug, Drop)]
+pub(crate) struct Row {
+    defined: Vec<Defined>,
+}
+
+impl Model for Row {
+    ghost use Rattle.std.specs.Vec.{vec_capacity};
+    ghost use Rattle.dt_definitions.specs.DefinitionRows.{DefinitionRow, RowAscends};
+
+    ghost Value = { DefinitionRow };
+
+    ghost view = { λ r. record { defined = r.defined.items; room = vec_capacity r.defined } };
+
+    ghost invariant = { λ r. RowAscends r.defined.items };
+}
+
+/// Whether the first classes stand before the second: by the first place that differs.
+fn is_before(first: &[ClassNo], second: &[ClassNo]) -> bool
+    ensures { result ≡ are_classes_before first.now second.now }
+{
+    match (first, second) {
+        ([], []) => false,
+        ([], [_y, ..]) => true,
+        ([_x, ..], []) => false,
+        ([x, first @ ..], [y, second @ ..]) => *x < *y || (*x == *y && is_before(first, second)),
+    }
+}
+
+/// Whether the two are the same.
+fn is_same(first: &[ClassNo], second: &[ClassNo]) -> bool
+    ensures { result ≡ same_classes first.now second.now }
+{
+    first == second
+}
+
+/// The first place from 0 of the row whose classes don't stand before these.
+fn place_in(row: &[Defined], classes: &[ClassNo]) -> usize
+    requires { RowAscends row.now }
+    ensures { result ≡ first_place classes.now row.now }
+{
+    let mut low = 0;
+    let mut high = row.len();
+    while low < high {
+        let middle = low + (high - low) / 2;
+        if is_before(row[middle].classes.classes(), classes) {
+            low = middle + 1;
+        } else {
+            high = middle;
+        }
+    }
+    low
+}
+
+/// The place of the definition at these classes, or else the place at which it would stand.
+fn search(row: &[Defined], classes: &[ClassNo]) -> Result<usize, usize>
+    requires { RowAscends row.now }
+    ensures { Searched row.now classes.now result }
+{
+    let place = place_in(row, classes);
+    let Some(defined) = row.get(place) else {
+        return Err(place);
+    };
+    if is_same(defined.classes.classes(), classes) {
+        Ok(place)
+    } else {
+        Err(place)
+    }
+}
+
+impl Row {
+    /// A row with no definition. It takes no memory.
+    pub(crate) fn new(alloc: Global) -> Row
+        ensures { result.defined ≡ [] }
+    {
+        Row {
+            defined: Vec::new(alloc),
+        }
+    }
+
+    /// The definitions.
+    pub(crate) fn as_slice(&self) -> &[Defined]
+        ensures { result.now ≡ self.now.defined }
+    {
+        &self.defined
+    }
+
+    /// The body at these classes; `None` exactly where they aren't defined.
+    pub(crate) fn body(&self, classes: &[ClassNo]) -> Option<BodyNo>
+        ensures { result ≡ body_in self.now.defined classes.now }
+    {
+        match search(&self.defined, classes) {
+            Ok(place) => Some(self.defined[place].body),
+            Err(_) => None,
+        }
+    }
+
+    /// Gives the classes this body, in place of one that they have; answers whether they had none.
+    pub(crate) fn put(&mut self, classes: Tuple, body: BodyNo) -> Result<bool, NoMemory>
+        ensures is_new { IfOk result (λ is_new. is_new ≡ is_none (body_in self.old.defined classes)) }
+        ensures ok { OnOk result ((selector : ℕ) → with_selector selector self.new.defined
+            ≡ place_definition (record { selector = selector; classes = classes; body = body }) (with_selector selector self.old.defined)) }
+        ensures err { OnErr result (self.new.defined ≡ self.old.defined) }
+        ensures room_stays { self.old.room ≤ self.new.room }
+        ensures full { OnErr result (self.old.room ≤ length self.old.defined) }
+    {
+        match search(&self.defined, classes.classes()) {
+            Ok(place) => {
+                self.defined[place] = Defined { classes, body };
+                Ok(false)
+            }
+            Err(place) => {
+                self.defined.insert(place, Defined { classes, body })?;
+                Ok(true)
+            }
+        }
+    }
+
+    /// Takes the definition at these classes away; answers whether it was there.
+    pub(crate) fn remove(&mut self, classes: &[ClassNo]) -> bool
+        ensures was_there { result ≡ is_some (body_in self.old.defined classes.now) }
+        ensures after { (selector : ℕ) → with_selector selector self.new.defined
+            ≡ filter (λ d. not (is_definition selector classes.now d)) (with_selector selector self.old.defined) }
+        ensures room_stays { self.new.room ≡ self.old.room }
+    {
+        match search(&self.defined, classes) {
+            Ok(place) => {
+                self.defined.remove(place);
+                true
+            }
+            Err(_) => false,
+        }
+    }
+
+    /// An equal row.
+    pub(crate) fn copy(&self) -> Result<Row, NoMemory>
+        ensures { IfOk result (λ row. row.defined ≡ self.now.defined) }
+    {
+        let defined = self.defined.clone()?;
+        Ok(Row { defined })
+    }
+}

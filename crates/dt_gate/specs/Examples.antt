@@ -1,0 +1,97 @@
+-- Runs, worked out.
+use Rattle.std.specs.Prelude.{◌≡◌, ℕ, List, [], ◌∷◌, ◌++◌, length}
+use Rattle.dt_pages.specs.Reading.{Reading}
+use Rattle.dt_gate.specs.declared.event.Event.{Event}
+use Rattle.dt_gate.specs.declared.event.Event.TheVariants.{Look, Enter, Read, Leave, Fill, Publish, Poll, SeatOut, NoteOut, SeatBack, NoteBack, Tell}
+use Rattle.dt_gate.specs.declared.event.Holder.TheVariants.{Author, Reader}
+use Rattle.dt_gate.specs.declared.event.ReadWord.TheVariants.{Top, Page}
+use Rattle.dt_gate.specs.declared.gate.Gate.{Gate}
+use Rattle.dt_gate.specs.declared.gate.Stage.TheVariants.{Out, Spent}
+use Rattle.dt_gate.specs.declared.gate.Standing.TheVariants.{Free, Now, Old}
+use Rattle.dt_gate.specs.Gate.{Numbers, limits, root_at, seat_at, fresh}
+use Rattle.dt_gate.specs.Readers.{word_now}
+use Rattle.dt_gate.specs.Runs.{after, AreAllowed}
+use Rattle.dt_gate.specs.WrongMachines.{small, start, anything, laying, one_inside_an_old_root}
+
+-- one reader looks and enters, a version is published, and the old root is polled
+abbrev pub polled_held : List (Event ℕ ℕ)
+polled_held = one_inside_an_old_root ++ Poll 0 ∷ []
+
+-- the reader leaves, and the old root is polled again
+abbrev pub polled_free : List (Event ℕ ℕ)
+polled_free = polled_held ++ Leave 0 ∷ Poll 0 ∷ []
+
+-- the old root is found held while the reader is inside, and is free once it has left
+pub record OldRootIsFreed : Type 0 where
+  pub allowed : AreAllowed anything small start polled_free
+  pub still_old : (root_at (after small start polled_held) 0).standing ≡ Old 1
+  pub found_held : (after small start polled_held).held ≡ 0 ∷ []
+  pub then_free : (root_at (after small start polled_free) 0).standing ≡ Free
+  pub other_is_current : (root_at (after small start polled_free) 1).standing ≡ Now
+  pub polls : (after small start polled_free).polls ≡ (0, 0) ∷ (0, 1) ∷ []
+  pub history : (after small start polled_free).history ≡ 7 ∷ []
+
+-- three readers, and a limit of two entries
+abbrev pub three_readers : Numbers
+three_readers = limits 3 16 2
+
+abbrev pub begun : Gate ℕ ℕ
+begun = fresh three_readers
+
+-- all three look before any of them enters
+abbrev pub three_inside : List (Event ℕ ℕ)
+three_inside = SeatOut ∷ SeatOut ∷ SeatOut ∷ Look 0 ∷ Look 1 ∷ Look 2 ∷ Enter 0 ∷ Enter 1 ∷ Enter 2 ∷ []
+
+-- the first leaves and looks again
+abbrev pub one_looks_again : List (Event ℕ ℕ)
+one_looks_again = three_inside ++ Leave 0 ∷ Look 0 ∷ []
+
+-- the entries pass the limit, by less than the readers; the next look finds three, and is worn
+pub record PastTheLimit : Type 0 where
+  pub allowed : AreAllowed anything three_readers begun one_looks_again
+  pub entries : (after three_readers begun one_looks_again).entries ≡ 3
+  pub still_out : (seat_at (after three_readers begun one_looks_again) 0).stage ≡ Out
+  pub worn : (seat_at (after three_readers begun one_looks_again) 0).worn ≡ (0, 3) ∷ []
+  pub entered : (seat_at (after three_readers begun one_looks_again) 0).entered ≡ 0 ∷ []
+
+-- a meaning with a content: the word at address 0 is the number of entries
+abbrev pub counted : Reading → List ℕ → Type 0
+counted reading entries = reading 0 ≡ length entries
+
+-- one page of each level is filled, so that address 0 has the word 1; a root is laid with the first as its top page, and published
+abbrev pub filled_and_published : List (Event ℕ ℕ)
+filled_and_published = Fill 1 0 2 ∷ Fill 2 0 3 ∷ Fill 3 0 1 ∷ laying 1 ++ Publish 1 7 ∷ []
+
+-- a reader enters, and reads its way down from the top page
+abbrev pub read_down : List (Event ℕ ℕ)
+read_down = filled_and_published ++ SeatOut ∷ Look 0 ∷ Enter 0 ∷ Read 0 Top ∷ Read 0 (Page 1 0) ∷ Read 0 (Page 2 0) ∷ Read 0 (Page 3 0) ∷ []
+
+-- what was filled is read, and counts the entries
+pub record PagesAreRead : Type 0 where
+  pub allowed : AreAllowed counted small start read_down
+  pub top : word_now (after small start read_down) 1 Top ≡ 1
+  pub middle : word_now (after small start read_down) 1 (Page 1 0) ≡ 2
+  pub leaf : word_now (after small start read_down) 1 (Page 2 0) ≡ 3
+  pub word : word_now (after small start read_down) 1 (Page 3 0) ≡ 1
+
+-- a version is published, and a reader that hasn't looked hears of it by a note of the author
+abbrev pub told_by_a_note : List (Event ℕ ℕ)
+told_by_a_note = SeatOut ∷ laying 0 ++ Publish 1 7 ∷ NoteOut Author ∷ NoteBack 1 (Reader 0) ∷ Tell (Reader 0) ∷ []
+
+-- the reader has the author's history, and keeps both; the note is spent
+pub record NoteTellsHistory : Type 0 where
+  pub allowed : AreAllowed anything small start told_by_a_note
+  pub history : (seat_at (after small start told_by_a_note) 0).history ≡ 7 ∷ []
+  pub joined : (seat_at (after small start told_by_a_note) 0).joined ≡ ([], 7 ∷ [])
+  pub note : (seat_at (after small start told_by_a_note) 1).stage ≡ Spent
+
+-- a reader enters once, looks once more at the limit, and is given back
+abbrev pub given_back : List (Event ℕ ℕ)
+given_back = SeatOut ∷ Look 0 ∷ Enter 0 ∷ Leave 0 ∷ Look 0 ∷ SeatBack 0 ∷ Tell Author ∷ []
+
+-- the author has what the reader entered and its worn look, and no reader is out
+pub record SeatIsTakenBack : Type 0 where
+  pub allowed : AreAllowed anything small start given_back
+  pub out : (after small start given_back).out ≡ 0
+  pub taken : (after small start given_back).taken ≡ (0 ∷ []) ∷ []
+  pub worn : (after small start given_back).worn ≡ ((0, 1) ∷ []) ∷ []

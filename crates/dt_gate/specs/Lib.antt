@@ -1,0 +1,11 @@
+pub mod Gate
+pub mod Events
+pub mod Counts
+pub mod Sound
+pub mod Runs
+pub mod Laws
+pub mod WrongMachines
+pub mod Examples
+pub mod Stays
+pub mod Readers
+pub mod Sweeps

@@ -1,0 +1,64 @@
+-- What a sweep over all old roots leaves.
+use Rattle.std.specs.Prelude.{◌≡◌, ◌≢◌, ℕ, ◌+◌, ◌<◌, ◌≤◌, ◌==◌, true, false, List, [], ◌∷◌, ◌++◌, map, count_by, ⊤}
+use Rattle.std.specs.List.{list_any}
+use Rattle.dt_pages.specs.Reading.{Reading}
+use Rattle.dt_gate.specs.declared.event.Event.{Event}
+use Rattle.dt_gate.specs.declared.event.Event.TheVariants.{Poll}
+use Rattle.dt_gate.specs.declared.gate.Gate.{Gate}
+use Rattle.dt_gate.specs.declared.gate.Standing.TheVariants.{Free, Old}
+use Rattle.dt_gate.specs.Gate.{Numbers, root_at}
+use Rattle.dt_gate.specs.Events.{is_new_sweep, step}
+use Rattle.dt_gate.specs.Counts.{is_old}
+use Rattle.dt_gate.specs.Runs.{after, AreAllowed, IsReached}
+
+-- each root stands in the list once
+abbrev pub AreDistinct : List ℕ → Type 0
+AreDistinct [] = ⊤
+AreDistinct (root ∷ roots) = (list_any (λ other. other == root) roots ≡ false) × AreDistinct roots
+
+module _ {M E : Type 0} where
+  -- the polls of a sweep over these roots, in this order
+  abbrev pub sweep_over : List ℕ → List (Event M E)
+  sweep_over roots = map (λ root. Poll root) roots
+
+  -- the first poll begins a new sweep
+  abbrev pub BeginsAnew : Gate M E → List ℕ → Type 0
+  BeginsAnew gate [] = ⊤
+  BeginsAnew gate (root ∷ roots) = is_new_sweep gate root ≡ true
+
+  -- how many roots are old
+  abbrev pub old_roots : Gate M E → ℕ
+  old_roots gate = count_by (λ root. is_old root.standing) gate.roots
+
+  -- a sweep polls each old root once, and begins anew with its first poll
+  pub record IsSweep (shows : Reading → List E → Type 0) (numbers : Numbers) (gate : Gate M E)
+      (roots : List ℕ) : Type 0 where
+    pub allowed : AreAllowed shows numbers gate (sweep_over roots)
+    pub each_once : AreDistinct roots
+    pub every_old_root : (root : ℕ) → is_old (root_at gate root).standing ≡ true
+        → list_any (λ other. other == root) roots ≡ true
+    pub anew : BeginsAnew gate roots
+
+  -- the roots that are still old are no more than the readers out, and some root is free
+  pub record SweepLeavesRoom (numbers : Numbers) (gate : Gate M E) : Type 0 where
+    pub still_old : old_roots gate ≤ gate.out
+    pub some_free : (root : ℕ) × (root < numbers.readers + 2) × ((root_at gate root).standing ≡ Free)
+
+  -- what a poll of an old root leads to
+  pub record PollDecides (gate : Gate M E) (root entries : ℕ) (next : Gate M E) : Type 0 where
+    pub frees : (root_at gate root).exits ≡ entries → (root_at next root).standing ≡ Free
+    pub holds : (root_at gate root).exits ≢ entries → (root_at next root).standing ≡ Old entries
+    pub finds_held : (root_at gate root).exits ≢ entries → list_any (λ held. held == root) next.held ≡ true
+    pub is_kept : next.polls ≡ gate.polls ++ (root, (root_at gate root).exits) ∷ []
+
+-- a poll frees an old root exactly where its exits are its final entries; else the root stays old, and is found held
+abbrev pub PollsDecide : (M E : Type 0) → Numbers → Type 0
+PollsDecide M E numbers = (gate : Gate M E) (root entries : ℕ) → (root_at gate root).standing ≡ Old entries
+    → PollDecides gate root entries (step numbers gate (Poll root))
+
+module _ (M : Type 0) {E : Type 0} (shows : Reading → List E → Type 0) (numbers : Numbers) where
+  -- every sweep leaves a free root
+  abbrev pub SweepsLeaveRoom : Type 0
+  SweepsLeaveRoom = (gate : Gate M E) (roots : List ℕ) → IsReached shows numbers gate
+      → IsSweep shows numbers gate roots
+      → SweepLeavesRoom numbers (after numbers gate (sweep_over roots))

@@ -1,0 +1,90 @@
+use crate::meaning::Meaning;
+
+/// A record word of a root.
+pub enum RecordWord {
+    /// How many have left.
+    Exits,
+    /// The version.
+    Version,
+    /// The number of the top page.
+    Top,
+}
+
+/// A word that a reader inside a root may read.
+pub enum ReadWord {
+    /// The root's version.
+    Version,
+    /// The root's top page.
+    Top,
+    /// The word at a place of a page that the top page reaches.
+    Page { page: u64, at: u64 },
+}
+
+/// Who gives a note out or takes one back.
+pub enum Holder {
+    /// The author.
+    Author,
+    /// The reader of this seat.
+    Reader(u64),
+}
+
+/// One atomic step.
+pub enum Event<M: Meaning> {
+    /// A reader loads the version word, and comes near where the entries are below the limit.
+    Look {
+        seat: u64,
+    },
+    /// A reader that is near adds 1 to the version word, and is inside the root that it names.
+    Enter {
+        seat: u64,
+    },
+    /// A reader inside a root loads a word of it.
+    Read {
+        seat: u64,
+        word: ReadWord,
+    },
+    /// A reader adds 1 to the exits of its root, and is out.
+    Leave {
+        seat: u64,
+    },
+    /// The author stores a word of a page that no live root reaches.
+    Fill {
+        page: u64,
+        at: u64,
+        word: u64,
+    },
+    /// The author stores a record word of a free root.
+    Lay {
+        root: u64,
+        word: RecordWord,
+        value: u64,
+    },
+    /// The author swaps the version word to a root that was laid: a new version is current.
+    Publish {
+        root: u64,
+        entry: M::Entry,
+    },
+    /// The author loads the exits of an old root, and frees it where all that entered have left.
+    Poll {
+        root: u64,
+    },
+    /// The author gives out a reader seat.
+    SeatOut,
+    /// The same for a note, which the author or a reader gives out.
+    NoteOut {
+        giver: Holder,
+    },
+    /// A reader seat that is out is given back to the author.
+    SeatBack {
+        seat: u64,
+    },
+    /// The same for a note, to the author or a reader.
+    NoteBack {
+        note: u64,
+        taker: Holder,
+    },
+    /// The taker of a seat or note learns that both histories were prefixes of the one that it has now.
+    Tell {
+        taker: Holder,
+    },
+}

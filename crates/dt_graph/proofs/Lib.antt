@@ -1,0 +1,14 @@
+pub mod Walks
+pub mod ParentLists
+pub mod Rows
+pub mod RowChanges
+pub mod Refusals
+pub mod LinkLists
+pub mod Ascending
+pub mod LawfulChanges
+pub mod Repeated
+pub mod GraphChanges
+pub mod Marks
+pub mod Search
+pub mod Subclasses
+pub mod LiveRows

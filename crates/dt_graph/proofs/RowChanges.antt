@@ -1,0 +1,196 @@
+-- What a change of one row does to the live classes and to the links.
+use Rattle.std.proofs.Common.{◌≡◌, ◌==◌, ◌≢◌, ℕ, zero, suc, ◌+◌, ◌<◌, true, false, cond, not, List, [], ◌∷◌, ◌++◌, length, get_or, set, filter, refl, sym, ap, ◌∙◌, nat_lt, eq-eqb, ne_eqb, lt-ltb, le-ltb, arith, set-set, length-set, get_or-set_same}
+use Rattle.std.proofs.lemmas.Bool.Decides.{nat_tests}
+use Rattle.std.proofs.lemmas.List.Elements.{filter-append}
+use Rattle.dt_graph.specs.Graph.{Link, is_link, place_number, place_link, place_links}
+use Rattle.dt_graph.specs.GraphRows.{live_from, links_to, links_from, place_numbers}
+use Rattle.dt_graph.specs.declared.class_graph.Row.{Row}
+
+-- ---- the live classes
+
+-- a row that is live as before
+pub live_from-same : (rows : List Row) (k i : ℕ) (row d : Row) → row.is_live ≡ (get_or rows i d).is_live → i < length rows → live_from k (set rows i row) ≡ live_from k rows
+live_from-same [] k i row d same inside = refl
+live_from-same (r ∷ rows) k zero row d same inside = rw same refl
+live_from-same (r ∷ rows) k (suc i) row d same inside = rw (live_from-same rows (k + 1) i row d same (omega arith)) refl
+
+place_number-first : (rows : List Row) (k q : ℕ) → q < k → place_number q (live_from k rows) ≡ q ∷ live_from k rows
+place_number-first [] k q before = refl
+place_number-first (r ∷ rows) k q before =
+    let rest = place_number-first rows (k + 1) q (omega arith) in
+    elim r.is_live as (λ b. place_number q (cond b (k ∷ live_from (k + 1) rows) (live_from (k + 1) rows)) ≡ q ∷ cond b (k ∷ live_from (k + 1) rows) (live_from (k + 1) rows)) [
+      | true ↦ rw (lt-ltb q k before) refl
+      | false ↦ rest
+    ]
+
+-- a row that becomes live
+pub live_from-placed : (rows : List Row) (k i q : ℕ) (row : Row) → q ≡ k + i → i < length rows → row.is_live ≡ true → live_from k (set rows i row) ≡ place_number q (live_from k rows)
+live_from-placed [] k i q row at inside live = absurd (omega arith)
+live_from-placed (r ∷ rows) k zero q row at inside live =
+    let here : q ≡ k = omega arith in
+    let first = place_number-first rows (k + 1) q (omega arith) in
+    rw (live, ← here) (elim r.is_live as (λ b. q ∷ live_from (q + 1) rows ≡ place_number q (cond b (q ∷ live_from (q + 1) rows) (live_from (q + 1) rows))) [
+      | true ↦ rw (le-ltb q q (omega arith), eq-eqb q q refl) refl
+      | false ↦ sym (rw here (place_number-first rows (k + 1) k (omega arith)))
+    ])
+live_from-placed (r ∷ rows) k (suc i) q row at inside live =
+    let rest = live_from-placed rows (k + 1) i q row (omega arith) (omega arith) live in
+    rw rest (elim r.is_live as (λ b. cond b (k ∷ place_number q (live_from (k + 1) rows)) (place_number q (live_from (k + 1) rows)) ≡ place_number q (cond b (k ∷ live_from (k + 1) rows) (live_from (k + 1) rows))) [
+      | true ↦ rw (le-ltb q k (omega arith), ne_eqb q k (omega arith)) refl
+      | false ↦ refl
+    ])
+
+drop_number-none : (rows : List Row) (k q : ℕ) → q < k → filter (λ c. not (c == q)) (live_from k rows) ≡ live_from k rows
+drop_number-none [] k q before = refl
+drop_number-none (r ∷ rows) k q before =
+    let rest = drop_number-none rows (k + 1) q (omega arith) in
+    elim r.is_live as (λ b. filter (λ c. not (c == q)) (cond b (k ∷ live_from (k + 1) rows) (live_from (k + 1) rows)) ≡ cond b (k ∷ live_from (k + 1) rows) (live_from (k + 1) rows)) [
+      | true ↦ rw (ne_eqb k q (omega arith)) (ap (λ cs. k ∷ cs) rest)
+      | false ↦ rest
+    ]
+
+-- a row that isn't live any more
+pub live_from-dropped : (rows : List Row) (k i q : ℕ) (row : Row) → q ≡ k + i → i < length rows → row.is_live ≡ false → live_from k (set rows i row) ≡ filter (λ c. not (c == q)) (live_from k rows)
+live_from-dropped [] k i q row at inside live = absurd (omega arith)
+live_from-dropped (r ∷ rows) k zero q row at inside live =
+    let rest = drop_number-none rows (k + 1) q (omega arith) in
+    rw live (elim r.is_live as (λ b. live_from (k + 1) rows ≡ filter (λ c. not (c == q)) (cond b (k ∷ live_from (k + 1) rows) (live_from (k + 1) rows))) [
+      | true ↦ rw (eq-eqb k q (omega arith)) (sym rest)
+      | false ↦ sym rest
+    ])
+live_from-dropped (r ∷ rows) k (suc i) q row at inside live =
+    let rest = live_from-dropped rows (k + 1) i q row (omega arith) (omega arith) live in
+    rw rest (elim r.is_live as (λ b. cond b (k ∷ filter (λ c. not (c == q)) (live_from (k + 1) rows)) (filter (λ c. not (c == q)) (live_from (k + 1) rows)) ≡ filter (λ c. not (c == q)) (cond b (k ∷ live_from (k + 1) rows) (live_from (k + 1) rows))) [
+      | true ↦ rw (ne_eqb k q (omega arith)) refl
+      | false ↦ refl
+    ])
+
+-- ---- the links
+
+-- a row with the same parents
+pub links_from-same : (rows : List Row) (k i : ℕ) (row d : Row) → row.parents.items ≡ (get_or rows i d).parents.items → i < length rows → links_from k (set rows i row) ≡ links_from k rows
+links_from-same [] k i row d same inside = refl
+links_from-same (r ∷ rows) k zero row d same inside = rw same refl
+links_from-same (r ∷ rows) k (suc i) row d same inside = rw (links_from-same rows (k + 1) i row d same (omega arith)) refl
+
+-- a link of a class before these links' class stands first, where it stands first among the rest
+before_links_to : (k q p : ℕ) (ps : List ℕ) (links : List Link) → q < k → place_link (record { class = q; parent = p }) links ≡ record { class = q; parent = p } ∷ links → place_link (record { class = q; parent = p }) (links_to k ps ++ links) ≡ record { class = q; parent = p } ∷ links_to k ps ++ links
+before_links_to k q p [] links before rest = rest
+before_links_to k q p (x ∷ ps) links before rest = rw (lt-ltb q k before) refl
+
+-- a link of a class before the rows stands first
+place_link-first : (rows : List Row) (k q p : ℕ) → q < k → place_link (record { class = q; parent = p }) (links_from k rows) ≡ record { class = q; parent = p } ∷ links_from k rows
+place_link-first [] k q p before = refl
+place_link-first (r ∷ rows) k q p before =
+    before_links_to k q p r.parents.items (links_from (k + 1) rows) before (place_link-first rows (k + 1) q p (omega arith))
+
+same_either_way : (a b : ℕ) → (a == b) ≡ (b == a)
+same_either_way a b = grind (arith, nat_tests)
+
+-- a link of the class itself is placed among its own
+place_link-own : (rows : List Row) (k p : ℕ) (ps : List ℕ) → place_link (record { class = k; parent = p }) (links_to k ps ++ links_from (k + 1) rows) ≡ links_to k (place_number p ps) ++ links_from (k + 1) rows
+place_link-own rows k p [] = place_link-first rows (k + 1) k p (omega arith)
+place_link-own rows k p (x ∷ ps) =
+    let rest = place_link-own rows k p ps in
+    rw (le-ltb k k (omega arith), eq-eqb k k refl, same_either_way x p)
+    (elim (nat_lt p x) as (λ b. cond b (record { class = k; parent = p } ∷ record { class = k; parent = x } ∷ links_to k ps ++ links_from (k + 1) rows) (cond (p == x) (record { class = k; parent = x } ∷ links_to k ps ++ links_from (k + 1) rows) (record { class = k; parent = x } ∷ place_link (record { class = k; parent = p }) (links_to k ps ++ links_from (k + 1) rows))) ≡ links_to k (cond b (p ∷ x ∷ ps) (cond (p == x) (x ∷ ps) (x ∷ place_number p ps))) ++ links_from (k + 1) rows) [
+      | true ↦ refl
+      | false ↦ elim (p == x) as (λ b. cond b (record { class = k; parent = x } ∷ links_to k ps ++ links_from (k + 1) rows) (record { class = k; parent = x } ∷ place_link (record { class = k; parent = p }) (links_to k ps ++ links_from (k + 1) rows)) ≡ links_to k (cond b (x ∷ ps) (x ∷ place_number p ps)) ++ links_from (k + 1) rows) [
+        | true ↦ refl
+        | false ↦ ap (λ ls. record { class = k; parent = x } ∷ ls) rest
+      ]
+    ])
+
+-- a link of a later class is placed after these
+place_link-later : (k q p : ℕ) (ps : List ℕ) (links : List Link) → k < q → place_link (record { class = q; parent = p }) (links_to k ps ++ links) ≡ links_to k ps ++ place_link (record { class = q; parent = p }) links
+place_link-later k q p [] links after = refl
+place_link-later k q p (x ∷ ps) links after =
+    rw (le-ltb q k (omega arith), ne_eqb q k (omega arith), ne_eqb k q (omega arith)) (ap (λ ls. record { class = k; parent = x } ∷ ls) (place_link-later k q p ps links after))
+
+-- a row with one parent more
+pub links_from-placed : (rows : List Row) (k i q p : ℕ) (row d : Row) → q ≡ k + i → i < length rows → row.parents.items ≡ place_number p (get_or rows i d).parents.items → links_from k (set rows i row) ≡ place_link (record { class = q; parent = p }) (links_from k rows)
+links_from-placed [] k i q p row d at inside parents = absurd (omega arith)
+links_from-placed (r ∷ rows) k zero q p row d at inside parents =
+    let here : q ≡ k = omega arith in
+    rw (parents, here) (sym (place_link-own rows k p r.parents.items))
+links_from-placed (r ∷ rows) k (suc i) q p row d at inside parents =
+    rw (links_from-placed rows (k + 1) i q p row d (omega arith) (omega arith) parents) (sym (place_link-later k q p r.parents.items (links_from (k + 1) rows) (omega arith)))
+
+-- a row with these parents
+abbrev pub row_with : List ℕ → Row
+row_with parents = record { is_live = true; parents = record { items = parents } }
+
+-- a row with parents placed one after another
+links_from-each_placed : (rows : List Row) (i : ℕ) (ps before : List ℕ) → i < length rows → links_from 0 (set rows i (row_with (place_numbers ps before))) ≡ place_links i ps (links_from 0 (set rows i (row_with before)))
+links_from-each_placed rows i [] before inside = refl
+links_from-each_placed rows i (p ∷ ps) before inside =
+    let d = row_with before in
+    let first = links_from-placed (set rows i (row_with before)) 0 i i p (row_with (place_number p before)) d (omega arith) (rw length-set inside) (rw (get_or-set_same rows i (row_with before) d inside) refl) in
+    links_from-each_placed rows i ps (place_number p before) inside
+    ∙ ap (place_links i ps) (rw set-set at first)
+
+-- a row without parents that gets these
+pub links_from-filled : (rows : List Row) (i : ℕ) (ps : List ℕ) (row d : Row) → i < length rows → (get_or rows i d).parents.items ≡ [] → row.parents.items ≡ place_numbers ps [] → links_from 0 (set rows i row) ≡ place_links i ps (links_from 0 rows)
+links_from-filled rows i ps row d inside none filled =
+    let to_row : links_from 0 (set rows i (row_with (place_numbers ps []))) ≡ links_from 0 (set rows i row) = (rw set-set at (links_from-same (set rows i row) 0 i (row_with (place_numbers ps [])) row (rw (get_or-set_same rows i row row inside, filled) refl) (rw length-set inside))) in
+    let from_none = links_from-same rows 0 i (row_with []) d (sym none) inside in
+    sym to_row ∙ links_from-each_placed rows i ps [] inside ∙ ap (place_links i ps) from_none
+
+-- ---- links that go
+
+-- the links but those of the class
+other_classes_links-to : (k q : ℕ) (ps : List ℕ) → k ≢ q → filter (λ (l : Link). not (l.class == q)) (links_to k ps) ≡ links_to k ps
+other_classes_links-to k q [] other = refl
+other_classes_links-to k q (x ∷ ps) other = rw (ne_eqb k q other) (ap (λ ls. record { class = k; parent = x } ∷ ls) (other_classes_links-to k q ps other))
+
+own_links_go : (k : ℕ) (ps : List ℕ) → filter (λ (l : Link). not (l.class == k)) (links_to k ps) ≡ []
+own_links_go k [] = refl
+own_links_go k (x ∷ ps) = rw (eq-eqb k k refl) (own_links_go k ps)
+
+drop_links-none : (rows : List Row) (k q : ℕ) → q < k → filter (λ (l : Link). not (l.class == q)) (links_from k rows) ≡ links_from k rows
+drop_links-none [] k q before = refl
+drop_links-none (r ∷ rows) k q before =
+    filter-append (λ (l : Link). not (l.class == q)) (links_to k r.parents.items) (links_from (k + 1) rows)
+    ∙ rw (other_classes_links-to k q r.parents.items (omega arith), drop_links-none rows (k + 1) q (omega arith)) refl
+
+-- a row whose parents are gone
+pub links_from-dropped : (rows : List Row) (k i q : ℕ) (row : Row) → q ≡ k + i → i < length rows → row.parents.items ≡ [] → links_from k (set rows i row) ≡ filter (λ (l : Link). not (l.class == q)) (links_from k rows)
+links_from-dropped [] k i q row at inside none = absurd (omega arith)
+links_from-dropped (r ∷ rows) k zero q row at inside none =
+    let here : q ≡ k = omega arith in
+    sym (filter-append (λ (l : Link). not (l.class == q)) (links_to k r.parents.items) (links_from (k + 1) rows)
+    ∙ rw (here, own_links_go k r.parents.items, drop_links-none rows (k + 1) k (omega arith), none) refl)
+links_from-dropped (r ∷ rows) k (suc i) q row at inside none =
+    sym (filter-append (λ (l : Link). not (l.class == q)) (links_to k r.parents.items) (links_from (k + 1) rows)
+    ∙ rw (other_classes_links-to k q r.parents.items (omega arith), links_from-dropped rows (k + 1) i q row (omega arith) (omega arith) none) refl)
+
+-- the links but the one
+other_class_keeps : (k q p : ℕ) (ps : List ℕ) → k ≢ q → filter (λ l. not (is_link q p l)) (links_to k ps) ≡ links_to k ps
+other_class_keeps k q p [] other = refl
+other_class_keeps k q p (x ∷ ps) other = rw (ne_eqb k q other) (ap (λ ls. record { class = k; parent = x } ∷ ls) (other_class_keeps k q p ps other))
+
+own_link_goes : (k p : ℕ) (ps : List ℕ) → filter (λ l. not (is_link k p l)) (links_to k ps) ≡ links_to k (filter (λ x. not (x == p)) ps)
+own_link_goes k p [] = refl
+own_link_goes k p (x ∷ ps) =
+    rw (eq-eqb k k refl, own_link_goes k p ps)
+    (elim (x == p) as (λ b. cond (not b) (record { class = k; parent = x } ∷ links_to k (filter (λ x. not (x == p)) ps)) (links_to k (filter (λ x. not (x == p)) ps)) ≡ links_to k (cond (not b) (x ∷ filter (λ x. not (x == p)) ps) (filter (λ x. not (x == p)) ps))) [
+      | true ↦ refl
+      | false ↦ refl
+    ])
+
+unlink-none : (rows : List Row) (k q p : ℕ) → q < k → filter (λ l. not (is_link q p l)) (links_from k rows) ≡ links_from k rows
+unlink-none [] k q p before = refl
+unlink-none (r ∷ rows) k q p before =
+    filter-append (λ l. not (is_link q p l)) (links_to k r.parents.items) (links_from (k + 1) rows)
+    ∙ rw (other_class_keeps k q p r.parents.items (omega arith), unlink-none rows (k + 1) q p (omega arith)) refl
+
+-- a row with one parent less
+pub links_from-removed : (rows : List Row) (k i q p : ℕ) (row d : Row) → q ≡ k + i → i < length rows → row.parents.items ≡ filter (λ x. not (x == p)) (get_or rows i d).parents.items → links_from k (set rows i row) ≡ filter (λ l. not (is_link q p l)) (links_from k rows)
+links_from-removed [] k i q p row d at inside fewer = absurd (omega arith)
+links_from-removed (r ∷ rows) k zero q p row d at inside fewer =
+    let here : q ≡ k = omega arith in
+    sym (filter-append (λ l. not (is_link q p l)) (links_to k r.parents.items) (links_from (k + 1) rows)
+    ∙ rw (here, own_link_goes k p r.parents.items, unlink-none rows (k + 1) k p (omega arith), fewer) refl)
+links_from-removed (r ∷ rows) k (suc i) q p row d at inside fewer =
+    sym (filter-append (λ l. not (is_link q p l)) (links_to k r.parents.items) (links_from (k + 1) rows)
+    ∙ rw (other_class_keeps k q p r.parents.items (omega arith), links_from-removed rows (k + 1) i q p row d (omega arith) (omega arith) fewer) refl)

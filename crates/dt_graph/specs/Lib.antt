@@ -1,0 +1,10 @@
+pub mod Refusal
+pub mod Graph
+pub mod GraphRows
+pub mod Parents
+pub mod Below
+pub mod Lawful
+pub mod Descendants
+pub mod Reached
+pub mod GraphChange
+pub mod Examples

@@ -1,0 +1,100 @@
+ghost use Rattle.std.specs.Prelude.{◌≡◌, not, find, [], ◌∷◌};
+ghost use Rattle.dt_graph.specs.Graph.{is_live};
+ghost use Rattle.dt_graph.specs.GraphChange.{add_cause, drop_cause, link_cause, unlink_cause, first_repeated};
+
+use crate::class_graph::ClassGraph;
+use crate::class_no::ClassNo;
+use crate::graph_fault::GraphFault;
+use crate::limits::PARENTS;
+
+/// The first class that stands among the earlier ones.
+fn first_repeated(classes: &[ClassNo]) -> Option<ClassNo>
+    ensures { result ≡ first_repeated [] classes.now }
+{
+    for (i, class) in classes.iter().enumerate() {
+        if classes[..i].contains(class) {
+            return Some(*class);
+        }
+    }
+    None
+}
+
+impl ClassGraph {
+    /// The first of the classes that isn't live.
+    fn first_unknown(&self, classes: &[ClassNo]) -> Option<ClassNo>
+        ensures { result ≡ find (λ class. not (is_live self.now class)) classes.now }
+    {
+        classes.iter().copied().find(|class| !self.is_live(*class))
+    }
+
+    /// Why a class with these parents isn't added.
+    pub(crate) fn add_cause(&self, class: ClassNo, parents: &[ClassNo]) -> Option<GraphFault>
+        ensures { result ≡ add_cause self.now class parents.now }
+    {
+        if self.is_live(class) {
+            return Some(GraphFault::ClassExists);
+        }
+        if parents.len() > PARENTS {
+            return Some(GraphFault::TooManyParents);
+        }
+        if let Some(class) = self.first_unknown(parents) {
+            return Some(GraphFault::ClassUnknown { class });
+        }
+        if let Some(class) = first_repeated(parents) {
+            return Some(GraphFault::ParentTwice { class });
+        }
+        None
+    }
+
+    /// Why [`drop_class`](ClassGraph::drop_class) would refuse the class; `None` where it would drop it. A program asks
+    /// before it drops a class that its own definitions name.
+    pub fn drop_cause(&self, class: ClassNo) -> Option<GraphFault>
+        ensures { result ≡ drop_cause self.now class }
+    {
+        if !self.is_live(class) {
+            return Some(GraphFault::ClassUnknown { class });
+        }
+        if let Some(class) = self.lowest_subclass(class) {
+            return Some(GraphFault::HasSubclasses { class });
+        }
+        None
+    }
+
+    /// Why a link from the class to the parent isn't made.
+    pub(crate) fn link_cause(&self, class: ClassNo, parent: ClassNo) -> Option<GraphFault>
+        ensures { result ≡ link_cause self.now class parent }
+    {
+        if !self.is_live(class) {
+            return Some(GraphFault::ClassUnknown { class });
+        }
+        if !self.is_live(parent) {
+            return Some(GraphFault::ClassUnknown { class: parent });
+        }
+        if self.has_link(class, parent) {
+            return Some(GraphFault::LinkExists);
+        }
+        if self.parent_count(class) >= PARENTS {
+            return Some(GraphFault::TooManyParents);
+        }
+        if self.is_below(parent, class) {
+            return Some(GraphFault::Cycle);
+        }
+        None
+    }
+
+    /// Why the link from the class to the parent isn't taken away.
+    pub(crate) fn unlink_cause(&self, class: ClassNo, parent: ClassNo) -> Option<GraphFault>
+        ensures { result ≡ unlink_cause self.now class parent }
+    {
+        if !self.is_live(class) {
+            return Some(GraphFault::ClassUnknown { class });
+        }
+        if !self.is_live(parent) {
+            return Some(GraphFault::ClassUnknown { class: parent });
+        }
+        if !self.has_link(class, parent) {
+            return Some(GraphFault::LinkUnknown);
+        }
+        None
+    }
+}

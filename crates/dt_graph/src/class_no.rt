@@ -1,0 +1,56 @@
+ghost use Rattle.std.specs.Prelude.{◌≡◌, ℕ, ◌<◌};
+ghost use Rattle.std.specs.Option.{SomeIff};
+
+use crate::limits::CLASSES;
+use std::marker::Model;
+
+/// The number of a class, below [`CLASSES`]. It is the number of the class's name, so a class that is dropped
+/// and added again has the same number.
+#[derive(Clone, Copy, Debug, Default, PartialEq, Eq, PartialOrd, Ord)]
+pub struct ClassNo {
+    number: u16,
+}
+
+impl Model for ClassNo {
+    ghost use Rattle.std.specs.Prelude.{ℕ, ◌<◌};
+    ghost use Rattle.dt_graph.specs.declared.limits.TheConstants.{CLASSES};
+
+    ghost Value = { ℕ };
+
+    ghost view = { λ c. c.number };
+
+    ghost invariant = { λ c. c.number < CLASSES };
+
+    ghost inverse = { λ n. record { number = n } };
+}
+
+impl ClassNo {
+    /// The class of this number; `None` exactly where the number is [`CLASSES`] or more.
+    pub fn new(number: u16) -> Option<ClassNo>
+        ensures { SomeIff result (number < CLASSES) number }
+    {
+        if number < CLASSES {
+            Some(ClassNo { number })
+        } else {
+            None
+        }
+    }
+
+    /// The number.
+    pub fn number(self) -> u16
+        ensures value { result ≡ self }
+        ensures in_range { result < CLASSES }
+    {
+        self.number
+    }
+
+    /// The class of a place in a table of all classes.
+    pub(crate) fn from_index(index: usize) -> ClassNo
+        requires { index < CLASSES }
+        ensures { result ≡ index }
+    {
+        ClassNo {
+            number: index as u16,
+        }
+    }
+}

@@ -1,0 +1,25 @@
+//! The class graph of a program: which classes are live, which class has which parents, and the order
+//! "below" that the links make. Also the two types that all crates share: [`NoMemory`] and [`Steps`].
+#![tactic(auto)]
+
+mod below;
+mod causes;
+mod class_graph;
+mod class_no;
+mod graph_fault;
+mod limits;
+mod no_memory;
+mod parents;
+mod reached;
+mod steps;
+
+pub use below::{below_is_an_order, below_test_agrees};
+pub use class_graph::ClassGraph;
+pub use class_no::ClassNo;
+pub use graph_fault::GraphFault;
+pub use limits::{CLASSES, PARENTS};
+pub use no_memory::NoMemory;
+pub use steps::Steps;
+
+#[cfg(test)]
+mod tests;

@@ -1,0 +1,88 @@
+-- What holds of readings and images, and examples.
+use Rattle.std.specs.Prelude.{true, ◌≢◌, ◌≡◌, ℕ, ◌<◌, ◌==◌, ◌↔◌, if◌then◌else◌, ◌&&◌, List, [], ◌∷◌, Any, Contains}
+use Rattle.std.specs.List.Sorted.{IsStrictlyIncreasing}
+use Rattle.std.specs.FinMap.{empty, entries, from_sorted}
+use Rattle.dt_pages.specs.Reading.{Pages, blank, reading, Reaches}
+use Rattle.dt_pages.specs.Image.{Image, IsImage, place, used_places, differs_below, look_up, nodes, need}
+
+-- the words of the page are the same in both
+abbrev pub SamePage : Pages → Pages → ℕ → Type 0
+SamePage pages others page = (at : ℕ) → at < 512 → pages page at ≡ others page at
+
+-- where the words of every page that a top page reaches are the same, it gives the same reading
+abbrev pub SameReading : Type 0
+SameReading = (pages others : Pages) (top : ℕ) → ((page : ℕ) → Reaches pages top page → SamePage pages others page)
+    → reading pages top ≡ reading others top
+
+-- where the words of every page that a top page reaches are the same, it reaches the same pages
+abbrev pub SameReach : Type 0
+SameReach = (pages others : Pages) (top : ℕ) → ((page : ℕ) → Reaches pages top page → SamePage pages others page)
+    → (page : ℕ) → Reaches pages top page ↔ Reaches others top page
+
+-- a top page reaches itself
+abbrev pub TopIsReached : Type 0
+TopIsReached = (pages : Pages) (top : ℕ) → Reaches pages top top
+
+-- a word of the image is set below this place of a level
+abbrev pub HasWordBelow : Image → ℕ → ℕ → Type 0
+HasWordBelow image level at = Any (λ set. place level set.0 ≡ at) (entries image)
+
+-- the places that are counted for nodes are those below which a word is set, each once
+pub record PlacesAreCounted (image : Image) (level : ℕ) : Type 0 where
+  pub each_once : IsStrictlyIncreasing (used_places image level)
+  pub used : (at : ℕ) → Contains (used_places image level) at ↔ HasWordBelow image level at
+
+-- two images differ below a place of a level where some address there has different words
+pub record PlacesDiffer (old new : Image) (level at : ℕ) : Type 0 where
+  pub address : ℕ
+  pub is_there : place level address ≡ at
+  pub is_other : look_up old address ≢ look_up new address
+
+-- the test by which needed nodes are counted says so
+abbrev pub DifferencesAreSeen : Type 0
+DifferencesAreSeen = (old new : Image) (level at : ℕ) → (differs_below old new level at ≡ true) ↔ PlacesDiffer old new level at
+
+-- so at every level of every image
+abbrev pub NodesAreCounted : Type 0
+NodesAreCounted = (image : Image) (level : ℕ) → PlacesAreCounted image level
+
+-- where nothing is set, every address reads as 0
+abbrev pub EmptyImageIsBlank : Type 0
+EmptyImageIsBlank = look_up empty ≡ blank
+
+-- where page 0 has zeros, every address of it reads as 0
+abbrev pub PageZeroIsBlank : Type 0
+PageZeroIsBlank = (pages : Pages) → ((at : ℕ) → at < 512 → pages 0 at ≡ 0) → reading pages 0 ≡ blank
+
+-- where page 0 has zeros, it reaches only itself
+abbrev pub PageZeroReachesItself : Type 0
+PageZeroReachesItself = (pages : Pages) → ((at : ℕ) → at < 512 → pages 0 at ≡ 0)
+    → (page : ℕ) → Reaches pages 0 page → page ≡ 0
+
+-- an image with three words
+abbrev pub three_words : Image
+three_words = from_sorted ((0, 1) ∷ (4096, 1) ∷ (16777216, 4294967298) ∷ [])
+
+-- the image with its last word changed
+abbrev pub last_changed : Image
+last_changed = from_sorted ((0, 1) ∷ (4096, 1) ∷ (16777216, 5) ∷ [])
+
+-- the pages in which these words are set, each with its page and its place there
+abbrev pub pages_with : List (ℕ × ℕ × ℕ) → Pages
+pages_with [] page at = 0
+pages_with (set ∷ sets) page at = if (set.0 == page) && (set.1 == at) then set.2 else pages_with sets page at
+
+-- six pages that show it, with top page 1
+abbrev pub six_pages : Pages
+six_pages = pages_with ((1, 0, 2) ∷ (1, 64, 3) ∷ (2, 0, 4) ∷ (2, 8, 5) ∷ (3, 0, 6)
+    ∷ (4, 0, 1) ∷ (5, 0, 1) ∷ (6, 0, 4294967298) ∷ [])
+
+-- the image has six nodes, which are all new beside the empty image, and none of them beside itself;
+-- a change of its last word needs one page of each level; and the pages show the image
+pub record SixPages : Type 0 where
+  pub is_an_image : IsImage three_words
+  pub has_six_nodes : nodes three_words ≡ 6
+  pub all_are_new : need empty three_words ≡ 6
+  pub none_is_new : need three_words three_words ≡ 0
+  pub one_of_each_level : need three_words last_changed ≡ 3
+  pub they_show_it : reading six_pages 1 ≡ look_up three_words

@@ -1,0 +1,29 @@
+//! What a tree of pages shows, and what it takes to keep it.
+#![tactic(auto)]
+
+ghost use Rattle.dt_pages.specs.Laws.{EmptyImageIsBlank, SameReading, SameReach, TopIsReached, PageZeroIsBlank, PageZeroReachesItself, NodesAreCounted, DifferencesAreSeen, SixPages};
+
+/// A reading depends on the words of the pages that its top page reaches, and on no other.
+pub fn reached_pages_decide()
+    ensures reading { SameReading }
+    ensures reach { SameReach }
+    ensures itself { TopIsReached }
+{}
+
+/// Page 0 holds zeros: as a top page it shows the image in which nothing is set, and reaches no other page.
+pub fn page_zero_is_empty()
+    ensures image { EmptyImageIsBlank }
+    ensures reading { PageZeroIsBlank }
+    ensures reach { PageZeroReachesItself }
+{}
+
+/// A node is counted exactly where a word is set below it, and once; and it is seen to differ exactly where some word does.
+pub fn nodes_are_counted_once()
+    ensures places { NodesAreCounted }
+    ensures differences { DifferencesAreSeen }
+{}
+
+/// An example: an image of three words takes six pages, and they show it.
+pub fn six_pages_show_three_words()
+    ensures { SixPages }
+{}

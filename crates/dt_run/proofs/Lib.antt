@@ -1,0 +1,14 @@
+pub mod Appending
+pub mod Parts
+pub mod Spelling
+pub mod Numbers
+pub mod Taking
+pub mod LinesRead
+pub mod NoScript
+pub mod Examples
+pub mod History
+pub mod Joined
+pub mod Outcomes
+pub mod Short
+pub mod Endings
+pub mod Words3

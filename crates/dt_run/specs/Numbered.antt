@@ -1,0 +1,28 @@
+-- The lines of a script so far, in numbers: how one more line is taken.
+use Rattle.std.specs.Prelude.{◌≡◌, ◌+◌, ◌≤◌, false, ◌||◌, [], ◌++◌, length, option_to_list}
+use Rattle.dt_run.specs.Line.{Line}
+use Rattle.dt_run.specs.Numbering.{NameBook, empty_book, book_after, edit_in, query_in}
+use Rattle.dt_run.specs.Script.{is_caller}
+use Rattle.dt_graph.specs.declared.limits.TheConstants.{CLASSES}
+use Rattle.dt_selectors.specs.declared.limits.TheConstants.{SELECTORS, BODIES}
+use Rattle.dt_run.specs.declared.numbered.Numbered.{Numbered}
+
+-- there is room for the names of one more line, whichever it is
+pub record HasRoom (book : NameBook) : Type 0 where
+  pub classes : length book.classes + 2 ≤ CLASSES
+  pub selectors : length book.selectors + 1 ≤ SELECTORS
+  pub bodies : length book.bodies + 1 ≤ BODIES
+
+-- no line was taken
+pub record IsStart (numbered : Numbered) : Type 0 where
+  pub names : numbered.names ≡ empty_book
+  pub edits : numbered.edits.items ≡ []
+  pub has_caller : numbered.has_caller ≡ false
+  pub queries : numbered.queries.items ≡ []
+
+-- the line was taken: its names are in the book, and its edit or query comes last
+pub record Takes (old : Numbered) (line : Line) (new : Numbered) : Type 0 where
+  pub names : new.names ≡ book_after old.names line
+  pub edits : new.edits.items ≡ old.edits.items ++ option_to_list (edit_in (book_after old.names line) line)
+  pub has_caller : new.has_caller ≡ (old.has_caller || is_caller line)
+  pub queries : new.queries.items ≡ old.queries.items ++ option_to_list (query_in (book_after old.names line) line)

@@ -1,0 +1,63 @@
+-- What each ending of a run says of the words, of the source's bytes and of what the sink took.
+use Rattle.std.specs.Prelude.{◌≡◌, ℕ, ◌<◌, List, [], ◌∷◌, ◌++◌, length, codes, Option, None, Some, ◌⊎◌, IfSome, IsSome, IsSomeAnd}
+use Rattle.std.specs.Io.KnownBytes.{Appends}
+use Rattle.dt_run.specs.Line.{Line}
+use Rattle.dt_run.specs.FirstScript.{IsFirstScript}
+use Rattle.dt_run.specs.Script.{script_of, names_of}
+use Rattle.dt_run.specs.Log.{Log}
+use Rattle.dt_run.specs.Outcome.{Outcome}
+use Rattle.dt_run.specs.Text.{text_of}
+use Rattle.dt_run.specs.Outside.{Rose}
+use Rattle.dt_run.specs.Putting.{AppendsPrefix}
+use Rattle.dt_run.specs.declared.status.Status.{Status}
+use Rattle.dt_run.specs.declared.status.Status.TheVariants.{Done, WriteFault}
+use Rattle.dt_run.specs.declared.limits.TheConstants.{SCRIPT_BYTES}
+
+-- the words of the one command that there is for now
+abbrev pub run_words : List (List ℕ)
+run_words = codes "run" ∷ codes "--table" ∷ codes "sti" ∷ []
+
+-- the texts of the endings other than done
+abbrev pub usage_text : List ℕ
+usage_text = codes "usage: dispatch run --table sti|colour|row|mrd [--readers R] [--pages P] [--limit L]\n       dispatch gen --table sti|colour|row|mrd --number N --classes C --selectors S\n"
+
+abbrev pub script_text : List ℕ
+script_text = codes "fault script\n"
+
+abbrev pub read_text : List ℕ
+read_text = codes "fault read\n"
+
+abbrev pub memory_text : List ℕ
+memory_text = codes "fault memory\n"
+
+-- the bytes are no script: there are too many, or they are no first script
+abbrev pub IsNoScript : List ℕ → Type 0
+IsNoScript bytes = (SCRIPT_BYTES < length bytes) ⊎ ((lines : List Line) → IsFirstScript bytes lines → ⊥)
+
+-- The log is an outcome of the script that the bytes are, and the text is its text.
+pub record IsRunOf (bytes : List ℕ) (log : Log) (text : List ℕ) : Type 0 where
+  pub lines : List Line
+  pub script : IsFirstScript bytes lines
+  pub outcome : Outcome (script_of lines) log
+  pub printed : text ≡ text_of (names_of lines) log
+
+-- A fault's text was told: the sink took a prefix of it, and all of it where its count of faults didn't rise.
+pub record Told (before after : Option (List ℕ)) (faults_before faults_after : ℕ) (text : List ℕ) : Type 0 where
+  pub prefix : AppendsPrefix before after text
+  pub whole : (Rose faults_before faults_after → ⊥) → Appends before after text
+
+-- Done: the bytes are a first script, the log that is handed back is an outcome of it, and the sink took its text.
+abbrev pub IsDone : List ℕ → Option (List ℕ) → Option (List ℕ) → Option Log → Type 0
+IsDone bytes before after handed =
+    IsSomeAnd handed (λ log. (text : List ℕ) × IsRunOf bytes log text × Appends before after text)
+
+-- Cut short: as done, but that the sink took a prefix of the text.
+abbrev pub IsCutShort : List ℕ → Option (List ℕ) → Option (List ℕ) → Option Log → Type 0
+IsCutShort bytes before after handed =
+    IsSomeAnd handed (λ log. (text : List ℕ) × IsRunOf bytes log text × AppendsPrefix before after text)
+
+-- The log is handed back exactly at done and at a write fault.
+abbrev pub IsHanded : Status → Option Log → Type 0
+IsHanded Done handed = IsSome handed
+IsHanded WriteFault handed = IsSome handed
+IsHanded _ handed = handed ≡ None

@@ -1,0 +1,149 @@
+ghost use Rattle.std.specs.Prelude.{◌≡◌, List, IfOk, OnOk, IsErrOf};
+ghost use Rattle.dt_run.specs.Line as line;
+ghost use Rattle.dt_run.specs.FirstScript.{IsFirstScript};
+ghost use Rattle.dt_run.specs.Numbered.{IsStart};
+ghost use Rattle.dt_run.specs.InNumbers.{AreNumbers, IsNumbered, IsScriptOf};
+
+use crate::limits::SCRIPT_LINES;
+use crate::line::next_line;
+use crate::name_book::NameBook;
+use crate::numbered::Numbered;
+use crate::stage::Stage;
+use dt_definitions::{Edit, NoMemory};
+use dt_scratch::Query;
+use std::alloc::Global;
+
+/// A first script in numbers.
+#[derive(Drop)]
+pub struct FirstScript {
+    /// Its names.
+    pub names: NameBook,
+    /// Its edits, each a batch of its own.
+    pub edits: Vec<Edit>,
+    /// The queries of its caller, where it has one.
+    pub calls: Option<Vec<Query>>,
+}
+
+/// Why bytes give no first script.
+#[derive(Clone, Copy, Debug, PartialEq, Eq)]
+pub enum ScriptFault {
+    /// They are no first script.
+    Malformed,
+    /// Memory was wanted, and none was found.
+    NoMemory,
+}
+
+impl From<NoMemory> for ScriptFault {
+    ghost use Rattle.std.specs.Prelude.{◌≡◌};
+    ghost use Rattle.dt_run.specs.declared.first_script.ScriptFault.TheVariants as fault;
+
+    ghost from_gives = { λ _ e. e ≡ fault.NoMemory };
+
+    fn from(_error: NoMemory) -> ScriptFault {
+        ScriptFault::NoMemory
+    }
+}
+
+/// The first script of these bytes. It takes memory.
+///
+/// [`Malformed`](ScriptFault::Malformed) exactly where the bytes are no first script, unless memory was wanted.
+pub fn read_first_script(alloc: Global, bytes: &[u8]) -> Result<FirstScript, ScriptFault>
+    ensures script { IfOk result (λ script. (lines : List line.Line) × IsFirstScript bytes.now lines × IsNumbered lines script) }
+    ensures fault { IsErrOf result ScriptFault.Malformed → (lines : List line.Line) → IsFirstScript bytes.now lines → ⊥ }
+{
+    let mut numbered = Numbered::new(alloc)?;
+    match read_lines(alloc, bytes, &mut numbered) {
+        Ok(()) => Ok(script_of(numbered)),
+        Err(fault) => Err(fault),
+    }
+}
+
+// Takes the lines of a first script.
+fn read_lines(alloc: Global, bytes: &[u8], numbered: &mut Numbered) -> Result<(), ScriptFault>
+    requires { IsStart numbered.old }
+    ensures script { OnOk result ((lines : List line.Line) × IsFirstScript bytes.now lines × AreNumbers lines numbered.new) }
+    ensures fault { IsErrOf result ScriptFault.Malformed → (lines : List line.Line) → IsFirstScript bytes.now lines → ⊥ }
+{
+    let mut stage = Stage::Start;
+    let mut rest = bytes;
+    let mut lines = 0;
+    while !rest.is_empty() {
+        let Some((line, after)) = next_line(rest) else {
+            return Err(ScriptFault::Malformed);
+        };
+        let Some(next) = stage.after(&line) else {
+            return Err(ScriptFault::Malformed);
+        };
+        let full = lines == SCRIPT_LINES;
+        if full {
+            return Err(ScriptFault::Malformed);
+        }
+        numbered.take(alloc, line)?;
+        stage = next;
+        rest = after;
+        lines += 1;
+    }
+    match stage {
+        Stage::Ended => Ok(()),
+        _ => Err(ScriptFault::Malformed),
+    }
+}
+
+// The script of all its lines in numbers.
+fn script_of(numbered: Numbered) -> FirstScript
+    ensures { IsScriptOf numbered result }
+{
+    let Numbered {
+        names,
+        edits,
+        has_caller,
+        queries,
+    } = numbered;
+    let calls = if has_caller { Some(queries) } else { None };
+    FirstScript {
+        names,
+        edits,
+        calls,
+    }
+}
+
+#[cfg(test)]
+mod tests {
+    use super::*;
+    use std::test::Fail;
+
+    const TABLE: [(&str, bool); 12] = [
+        ("dispatch 1\nend\n", true),
+        (
+            "dispatch 1\nclass A\nclass B < A\nselector f 1\ndefine f A -> fa\ncaller 1\ncall f B\nend\n",
+            true,
+        ),
+        (
+            "dispatch 1\nselector f 1\nclass class < ->\ncaller 1\nend\n",
+            true,
+        ),
+        ("", false),
+        ("dispatch 1\nend", false),
+        ("dispatch 1\n\nend\n", false),
+        ("dispatch 1\ndrop A\nend\n", false),
+        ("dispatch 1\nclass  A\nend\n", false),
+        ("dispatch 1\nselector f 2\nend\n", false),
+        ("dispatch 1\ncall f A\nend\n", false),
+        ("dispatch 1\ncaller 1\nclass A\nend\n", false),
+        ("dispatch 1\nend\nend\n", false),
+    ];
+
+    #[test]
+    fn reads_first_scripts_alone(rt: HostRuntime) -> Result<(), Fail> {
+        for (text, is_script) in TABLE {
+            match read_first_script(rt.alloc(), text.as_bytes()) {
+                Ok(_) => assert!(rt; is_script),
+                Err(fault) => {
+                    assert!(rt; !is_script);
+                    assert_eq!(rt; fault, ScriptFault::Malformed);
+                }
+            }
+        }
+        Ok(())
+    }
+}

@@ -1,0 +1,31 @@
+ghost use Rattle.std.specs.Prelude.{◌≡◌, ℕ, ◌<◌, ◌≤◌, List, Option, length, OnErr};
+ghost use Rattle.std.specs.Io.{ReadsAtMost};
+ghost use Rattle.std.specs.Io.KnownBytes.{ReadConsumes};
+ghost use Rattle.dt_run.specs.Outside.{Rose};
+
+/// The outside failed.
+#[derive(Clone, Copy, Debug, PartialEq, Eq)]
+pub struct Failed;
+
+/// What bytes come from.
+pub trait Source {
+    /// The bytes that are still to come, where the source tells them.
+    ghost left: { Self → Option (List ℕ) };
+
+    /// How often the source failed, at most 2^64 - 1.
+    ghost faults: { Self → ℕ };
+
+    /// Puts bytes at the front of the room, and answers how many; 0 is the end of input. Where the source tells
+    /// what is left, they are the first bytes of that and gone from it, and 0 is answered only where nothing
+    /// was left.
+    ///
+    /// # Errors
+    ///
+    /// [`Failed`] only where the count of faults rose in this call. Nothing was given then.
+    fn read(&mut self, room: &mut [u8]) -> Result<usize, Failed>
+        requires { 0 < length room.old }
+        ensures bound { ReadsAtMost result room.new }
+        ensures bytes { ReadConsumes (left self.old) (left self.new) result room.new }
+        ensures failed { OnErr result (Rose (faults self.old) (faults self.new)) }
+        ensures counts { faults self.old ≤ faults self.new };
+}

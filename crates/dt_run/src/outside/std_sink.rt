@@ -1,0 +1,35 @@
+ghost use Rattle.std.specs.Prelude.{◌≡◌, ℕ};
+
+use crate::outside::sink::Sink;
+use crate::outside::source::Failed;
+use std::io::Write;
+
+/// A sink over a writer of std. It tells what the writer tells, which standard output doesn't.
+#[derive(Debug, Drop)]
+pub struct StdSink<T> {
+    inner: T,
+    faults: u64,
+}
+
+impl<T> StdSink<T> {
+    /// A sink that writes to this writer.
+    pub fn new(inner: T) -> StdSink<T> {
+        StdSink { inner, faults: 0 }
+    }
+}
+
+impl<T: Write> Sink for StdSink<T> {
+    ghost taken = { λ s. T.contents s.inner };
+
+    ghost faults = { λ s. s.faults };
+
+    fn put(&mut self, piece: &[u8]) -> Result<usize, Failed> {
+        match self.inner.write(piece) {
+            Ok(count) if count > 0 => Ok(count),
+            _ => {
+                self.faults = self.faults.saturating_add(1);
+                Err(Failed)
+            }
+        }
+    }
+}

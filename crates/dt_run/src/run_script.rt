@@ -1,0 +1,182 @@
+ghost use Rattle.std.specs.Prelude.{◌≡◌, ◌≢◌, ℕ, ◌+◌, ◌<◌, ◌≤◌, ◌↔◌, ◌⊎◌, List, Option, None, Some, [], length, IsTrue, IfOk, IfSome, IsErrOf, IsSome};
+ghost use Rattle.std.specs.Io.KnownBytes.{Appends};
+ghost use Rattle.dt_run.specs.Outside.{Rose};
+ghost use Rattle.dt_run.specs.Reading.{LosesAtMost};
+ghost use Rattle.dt_run.specs.Putting.{AppendsPrefix};
+ghost use Rattle.dt_run.specs.Line as line;
+ghost use Rattle.dt_run.specs.FirstScript.{IsFirstScript};
+ghost use Rattle.dt_run.specs.Run.{run_words, usage_text, script_text, read_text, memory_text, IsNoScript, IsRunOf, Told, IsDone, IsCutShort, IsHanded};
+ghost use Rattle.dt_run.specs.declared.limits.TheConstants.{SCRIPT_BYTES};
+
+use crate::arg_words::ArgWords;
+use crate::command::is_command;
+use crate::first_script::{ScriptFault, read_first_script};
+use crate::log::Log;
+use crate::outside::{Failed, Sink, Source};
+use crate::perform::perform;
+use crate::putting::put_all;
+use crate::reading::{ReadFault, read_to_end};
+use crate::status::Status;
+use crate::text::make_text;
+use crate::turnstile::Turnstile;
+use std::alloc::Global;
+use std::thread::Threads;
+
+/// How a run ended, and the log of what was performed: it is there exactly where the status is done or a write fault.
+#[derive(Debug, Drop)]
+pub struct Ran {
+    /// How the run ended.
+    pub status: Status,
+    /// What was performed.
+    pub log: Option<Log>,
+}
+
+/// What performing the bytes of a script gave.
+#[derive(Drop)]
+struct Performed {
+    log: Log,
+    text: Vec<u8>,
+}
+
+/// Reads the script that the bytes are, performs it, and makes the text of its log.
+fn perform_bytes<T: Turnstile>(
+    alloc: Global,
+    bytes: &[u8],
+    turnstile: &T,
+) -> Result<Performed, ScriptFault>
+    ensures ok { IfOk result (λ performed. IsRunOf bytes.now performed.log performed.text.items) }
+    ensures fault { IsErrOf result ScriptFault.Malformed → (lines : List line.Line) → IsFirstScript bytes.now lines → ⊥ }
+{
+    let script = read_first_script(alloc, bytes)?;
+    let log = perform(alloc, &script.edits, script.calls.as_deref(), turnstile)?;
+    let text = make_text(alloc, &script.names, &log)?;
+    Ok(Performed { log, text })
+}
+
+/// What is told where the words aren't a command.
+const USAGE: &str =
+    "usage: dispatch run --table sti|colour|row|mrd [--readers R] [--pages P] [--limit L]\n       dispatch gen --table sti|colour|row|mrd --number N --classes C --selectors S\n";
+
+/// Puts the text of a fault, and ends with the status. A sink that fails here changes nothing of the status.
+fn end_with<K: Sink>(sink: &mut K, status: Status, text: &[u8]) -> Ran
+    ensures status { result.status ≡ status }
+    ensures log { result.log ≡ None }
+    ensures told { Told (K.taken sink.old) (K.taken sink.new) (K.faults sink.old) (K.faults sink.new) text.now }
+    ensures counts { K.faults sink.old ≤ K.faults sink.new }
+{
+    let _ = put_all(sink, text);
+    Ran { status, log: None }
+}
+
+/// Prints the text of what was performed, and hands back its log.
+fn print<K: Sink>(sink: &mut K, performed: Performed) -> Ran
+    ensures log { result.log ≡ Some performed.log }
+    ensures done { result.status ≡ Status.Done → Appends (K.taken sink.old) (K.taken sink.new) performed.text.items }
+    ensures cut_short { AppendsPrefix (K.taken sink.old) (K.taken sink.new) performed.text.items }
+    ensures write_fault { result.status ≢ Status.Done → (result.status ≡ Status.WriteFault) × Rose (K.faults sink.old) (K.faults sink.new) }
+    ensures counts { K.faults sink.old ≤ K.faults sink.new }
+{
+    let Performed { log, text } = performed;
+    let status = match put_all(sink, &text) {
+        Ok(()) => Status::Done,
+        Err(Failed) => Status::WriteFault,
+    };
+    Ran {
+        status,
+        log: Some(log),
+    }
+}
+
+/// Reads the source to its end, performs the script that its bytes are, and prints the log.
+fn run_source<S: Source, K: Sink, T: Turnstile>(
+    alloc: Global,
+    source: &mut S,
+    sink: &mut K,
+    turnstile: &T,
+) -> Ran
+    ensures done { result.status ≡ Status.Done → IfSome (S.left source.old) (λ bytes.
+        (S.left source.new ≡ Some []) × IsDone bytes (K.taken sink.old) (K.taken sink.new) result.log) }
+    ensures write_fault { result.status ≡ Status.WriteFault → Rose (K.faults sink.old) (K.faults sink.new)
+        × IfSome (S.left source.old) (λ bytes. IsCutShort bytes (K.taken sink.old) (K.taken sink.new) result.log) }
+    ensures script { result.status ≡ Status.Script → IfSome (S.left source.old) IsNoScript
+        × Told (K.taken sink.old) (K.taken sink.new) (K.faults sink.old) (K.faults sink.new) script_text }
+    ensures read_fault { result.status ≡ Status.ReadFault → Rose (S.faults source.old) (S.faults source.new)
+        × Told (K.taken sink.old) (K.taken sink.new) (K.faults sink.old) (K.faults sink.new) read_text }
+    ensures no_memory { result.status ≡ Status.NoMemory
+        → Told (K.taken sink.old) (K.taken sink.new) (K.faults sink.old) (K.faults sink.new) memory_text }
+    ensures no_usage { result.status ≢ Status.Usage }
+    ensures log { IsHanded result.status result.log }
+    ensures lost { LosesAtMost (SCRIPT_BYTES + 1) (S.left source.old) (S.left source.new) }
+    ensures source_counts { S.faults source.old ≤ S.faults source.new }
+    ensures sink_counts { K.faults sink.old ≤ K.faults sink.new }
+{
+    let bytes = match read_to_end(alloc, source) {
+        Ok(bytes) => bytes,
+        Err(ReadFault::Read) => return end_with(sink, Status::ReadFault, b"fault read\n"),
+        Err(ReadFault::TooLong) => return end_with(sink, Status::Script, b"fault script\n"),
+        Err(ReadFault::NoMemory) => return end_with(sink, Status::NoMemory, b"fault memory\n"),
+    };
+    match perform_bytes(alloc, &bytes, turnstile) {
+        Ok(performed) => print(sink, performed),
+        Err(ScriptFault::Malformed) => end_with(sink, Status::Script, b"fault script\n"),
+        Err(ScriptFault::NoMemory) => end_with(sink, Status::NoMemory, b"fault memory\n"),
+    }
+}
+
+/// Runs the program: reads the words, then the source to its end, performs the script, and prints the log to the sink.
+/// For now the words are `run --table sti`, and the script is a first script.
+///
+/// The status tells how it ended. [`Status::Done`]: the bytes are a first script, the log is an outcome of it, and
+/// the sink took its text. [`Status::Usage`]: exactly where the words are others; the source wasn't read.
+/// [`Status::Script`]: the bytes are no first script. [`Status::ReadFault`]: the source failed.
+/// [`Status::WriteFault`]: the sink failed while the log was printed, and took a prefix of its text.
+/// [`Status::NoMemory`]: memory was wanted. Where the status is another than done or a write fault, the sink took the
+/// text of the fault, or a prefix of it where the sink failed. No call waits or retries.
+pub fn run<H: Threads + Sync, S: Source, K: Sink, T: Turnstile>(
+    _rt: &H,
+    alloc: Global,
+    words: &ArgWords,
+    source: &mut S,
+    sink: &mut K,
+    turnstile: &T,
+) -> Ran
+    // The headline, for first scripts.
+    ensures done { result.status ≡ Status.Done → IfSome (S.left source.old) (λ bytes.
+        (S.left source.new ≡ Some []) × IsDone bytes (K.taken sink.old) (K.taken sink.new) result.log) }
+
+    // The other endings: when each comes, and what the sink took.
+    ensures usage { (result.status ≡ Status.Usage) ↔ (words.now ≢ run_words) }
+    ensures usage_unread { result.status ≡ Status.Usage → source.new ≡ source.old }
+    ensures usage_told { result.status ≡ Status.Usage
+        → Told (K.taken sink.old) (K.taken sink.new) (K.faults sink.old) (K.faults sink.new) usage_text }
+    ensures script { result.status ≡ Status.Script → IfSome (S.left source.old) IsNoScript
+        × Told (K.taken sink.old) (K.taken sink.new) (K.faults sink.old) (K.faults sink.new) script_text }
+    ensures read_fault { result.status ≡ Status.ReadFault → Rose (S.faults source.old) (S.faults source.new)
+        × Told (K.taken sink.old) (K.taken sink.new) (K.faults sink.old) (K.faults sink.new) read_text }
+    ensures write_fault { result.status ≡ Status.WriteFault → Rose (K.faults sink.old) (K.faults sink.new)
+        × IfSome (S.left source.old) (λ bytes. IsCutShort bytes (K.taken sink.old) (K.taken sink.new) result.log) }
+    ensures no_memory { result.status ≡ Status.NoMemory
+        → Told (K.taken sink.old) (K.taken sink.new) (K.faults sink.old) (K.faults sink.new) memory_text }
+    ensures log { IsHanded result.status result.log }
+
+    // A script that isn't one is always found, and a first script is always performed, unless the outside fails or
+    // memory is wanted.
+    ensures script_always { words.now ≡ run_words → (Rose (S.faults source.old) (S.faults source.new) → ⊥)
+        → IfSome (S.left source.old) (λ bytes. IsNoScript bytes
+        → (result.status ≡ Status.Script) ⊎ (result.status ≡ Status.NoMemory)) }
+    ensures complete { words.now ≡ run_words → (Rose (S.faults source.old) (S.faults source.new) → ⊥)
+        → (Rose (K.faults sink.old) (K.faults sink.new) → ⊥)
+        → IfSome (S.left source.old) (λ bytes. (lines : List line.Line) → IsFirstScript bytes lines
+        → (result.status ≡ Status.Done) ⊎ (result.status ≡ Status.NoMemory)) }
+
+    // What is read, and the counts.
+    ensures reads_at_most { LosesAtMost (SCRIPT_BYTES + 1) (S.left source.old) (S.left source.new) }
+    ensures source_counts { S.faults source.old ≤ S.faults source.new }
+    ensures sink_counts { K.faults sink.old ≤ K.faults sink.new }
+{
+    if is_command(words) {
+        run_source(alloc, source, sink, turnstile)
+    } else {
+        end_with(sink, Status::Usage, USAGE.as_bytes())
+    }
+}

@@ -1,0 +1,9 @@
+pub mod Answers
+pub mod Best
+pub mod LiveNumbers
+pub mod Members
+pub mod MoreSpecific
+pub mod OtherReplies
+pub mod Replies
+pub mod StrictOrder
+pub mod TopClasses

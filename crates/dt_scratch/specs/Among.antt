@@ -1,0 +1,24 @@
+-- Look-up among the definitions that a program keeps for one selector.
+use Rattle.std.specs.Prelude.{◌≡◌, ℕ, Bool, true, ◌&&◌, not, List, Option, None, Some, filter}
+use Rattle.dt_graph.specs.Graph.{Link}
+use Rattle.dt_definitions.specs.Program.{same_classes}
+use Rattle.dt_definitions.specs.declared.defined.Defined.{Defined}
+use Rattle.dt_scratch.specs.Resolve.{are_below}
+
+-- those that are applicable to the classes
+abbrev pub applicable_among : List Link → List ℕ → List Defined → List Defined
+applicable_among links classes defined = filter (λ d. are_below links classes d.classes) defined
+
+-- whether the first list of classes is another than the second, and at least as specific in every place
+abbrev pub is_more_specific_at : List Link → List ℕ → List ℕ → Bool
+is_more_specific_at links a b = not (same_classes a b) && are_below links a b
+
+-- more specific goes on: what is more specific than one is more specific than all that the one is
+abbrev pub IsTransitive : List Link → Type 0
+IsTransitive links = (a b c : List ℕ) → is_more_specific_at links a b ≡ true → is_more_specific_at links b c ≡ true →
+    is_more_specific_at links a c ≡ true
+
+-- whether the definition is more specific than the best so far, if there is one
+abbrev pub is_better : List Link → Defined → Option Defined → Bool
+is_better links d None = true
+is_better links d (Some best) = is_more_specific_at links d.classes best.classes

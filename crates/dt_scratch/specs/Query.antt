@@ -1,0 +1,26 @@
+-- A query: a selector is sent to a list of classes, one for each argument. Any numbers may be asked.
+use Rattle.std.specs.Prelude.{ℕ, Bool, List, length, nat_eq}
+use Rattle.std.specs.Cmp.Lexicographic.{slice_cmp}
+use Rattle.std.specs.Ordering.{nat_cmp, on, then_cmp, eq_of_both}
+use Rattle.std.specs.declared.cmp.Ordering.{Ordering}
+use lib.Pointwise.{pointwise}
+
+pub record Query : Type 0 where
+  pub selector : ℕ
+  pub classes : List ℕ
+
+-- how many arguments the query has
+abbrev pub arity_of_query : Query → ℕ
+arity_of_query query = length query.classes
+
+-- whether the two queries are the same
+abbrev pub is_same_query : Query → Query → Bool
+is_same_query =
+    eq_of_both (on (λ q. q.selector) nat_eq)
+    (eq_of_both (on arity_of_query nat_eq) (on (λ q. q.classes) (pointwise nat_eq)))
+
+-- queries are ordered by selector, then by arity, then by the list of classes
+abbrev pub query_order : Query → Query → Ordering
+query_order =
+    then_cmp (on (λ q. q.selector) nat_cmp)
+    (then_cmp (on arity_of_query nat_cmp) (on (λ q. q.classes) (slice_cmp nat_cmp)))

@@ -1,0 +1,15 @@
+//! Names numbered in the order of their first appearance, and selectors with the number of their arguments.
+#![tactic(auto)]
+
+mod limits;
+mod names;
+mod numbers;
+mod selectors;
+
+pub use limits::{BODIES, NAMES, SELECTORS};
+pub use names::{NameFault, Names};
+pub use numbers::{Arity, BodyNo, SelNo};
+pub use selectors::{SelectorFault, Selectors};
+
+#[cfg(test)]
+mod tests;
