@@ -2,8 +2,11 @@ ghost use Rattle.std.specs.Prelude.{◌<◌};
 
 use dt_graph::NoMemory;
 use dt_run::outside::{ListSink, ListSource, StdSink, StdSource};
-use dt_run::{ArgWords, OpenTurnstile, Ran, Status, run};
+use dt_run::{ArgWords, OpenTurnstile, Ran, Status, Turnstile, run};
 use std::alloc::Global;
+use std::io;
+use std::io::{Read, Write};
+use std::sync::atomic::{AtomicU32, Ordering};
 use std::test::Fail;
 use std::thread::Threads;
 
@@ -183,5 +186,109 @@ fn each_cut_script_is_found(rt: HostRuntime) -> Result<(), Fail> {
         assert!(rt; ran.status == Status::Script);
         assert!(rt; sink.bytes() == b"fault script\n".as_slice());
     }
+    Ok(())
+}
+
+/// A reader and writer of which each call fails.
+#[derive(Drop)]
+struct Broken;
+
+impl Read for Broken {
+    fn read(&mut self, _buf: &mut [u8]) -> io::Result<usize> {
+        Err(io::Error::from(io::ErrorKind::Other))
+    }
+}
+
+impl Write for Broken {
+    fn write(&mut self, _buf: &[u8]) -> io::Result<usize> {
+        Err(io::Error::from(io::ErrorKind::Other))
+    }
+
+    fn flush(&mut self) -> io::Result<()> {
+        Ok(())
+    }
+}
+
+/// A writer that takes nothing.
+#[derive(Drop)]
+struct Full;
+
+impl Write for Full {
+    fn write(&mut self, _buf: &[u8]) -> io::Result<usize> {
+        Ok(0)
+    }
+
+    fn flush(&mut self) -> io::Result<()> {
+        Ok(())
+    }
+}
+
+#[test]
+fn adapters_pass_faults_on(rt: HostRuntime) -> Result<(), Fail> {
+    let alloc = rt.alloc();
+    let words = words(alloc, "run --table sti")?;
+
+    let mut broken = StdSource::new(Broken);
+    let mut taken = sink(alloc, 64, 0)?;
+    let ran = run(&rt, alloc, &words, &mut broken, &mut taken, &OpenTurnstile);
+    assert!(rt; ran.status == Status::ReadFault);
+    assert!(rt; taken.bytes() == b"fault read\n".as_slice());
+
+    let mut script = StdSource::new(OVERRIDE.as_bytes());
+    let mut broken = StdSink::new(Broken);
+    let ran = run(&rt, alloc, &words, &mut script, &mut broken, &OpenTurnstile);
+    assert!(rt; ran.status == Status::WriteFault);
+
+    let mut script = StdSource::new(OVERRIDE.as_bytes());
+    let mut full = StdSink::new(Full);
+    let ran = run(&rt, alloc, &words, &mut script, &mut full, &OpenTurnstile);
+    assert!(rt; ran.status == Status::WriteFault);
+
+    let mut script = StdSource::new(OVERRIDE.as_bytes());
+    let mut text = Vec::new(alloc);
+    let mut sink = StdSink::new(&mut text);
+    let ran = run(&rt, alloc, &words, &mut script, &mut sink, &OpenTurnstile);
+    assert!(rt; ran.status == Status::Done);
+    assert!(rt; text.as_slice() == REPLIES.as_bytes());
+    Ok(())
+}
+
+/// A turnstile that counts the calls of caller 1, where each comes before and after its call, in order.
+#[derive(Drop)]
+struct InOrder {
+    passed: AtomicU32,
+}
+
+impl InOrder {
+    /// One more, where so many have come before.
+    fn pass(&self, caller: u16, before: u32) {
+        if caller == 1 && self.passed.load(Ordering::SeqCst) == before {
+            self.passed.store(before.wrapping_add(1), Ordering::SeqCst);
+        }
+    }
+}
+
+impl Turnstile for InOrder {
+    fn before(&self, caller: u16, call: u32) {
+        self.pass(caller, call.wrapping_mul(2).wrapping_sub(2));
+    }
+
+    fn after(&self, caller: u16, call: u32) {
+        self.pass(caller, call.wrapping_mul(2).wrapping_sub(1));
+    }
+}
+
+#[test]
+fn the_turnstile_stands_round_each_call(rt: HostRuntime) -> Result<(), Fail> {
+    let alloc = rt.alloc();
+    let words = words(alloc, "run --table sti")?;
+    let mut source = source(alloc, OVERRIDE, 64, 0)?;
+    let mut taken = sink(alloc, 64, 0)?;
+    let turnstile = InOrder {
+        passed: AtomicU32::new(0),
+    };
+    let ran = run(&rt, alloc, &words, &mut source, &mut taken, &turnstile);
+    assert!(rt; ran.status == Status::Done);
+    assert!(rt; turnstile.passed.load(Ordering::SeqCst) == 6);
     Ok(())
 }

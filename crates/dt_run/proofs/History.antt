@@ -14,12 +14,12 @@ abbrev History : Type 0
 History = List (List Edit)
 
 -- the last batch steps last
-after_from-snoc : (p : Program) (h : History) (batch : List Edit) → after_from p (h ++ batch ∷ []) ≡ stepped (after_from p h) batch
+pub after_from-snoc : (p : Program) (h : History) (batch : List Edit) → after_from p (h ++ batch ∷ []) ≡ stepped (after_from p h) batch
 after_from-snoc p [] batch = refl
 after_from-snoc p (b ∷ h) batch = after_from-snoc (stepped p b) h batch
 
 -- a batch of one edit steps as the edit does
-stepped_one : (p q : Program) (edit : Edit) → step p edit ≡ Ok q → stepped p (edit ∷ []) ≡ q
+pub stepped_one : (p q : Program) (edit : Edit) → step p edit ≡ Ok q → stepped p (edit ∷ []) ≡ q
 stepped_one p q edit e = ap (λ r. result_unwrap_or (and_then r 1 (λ s. step_from 2 s [])) p) e
 
 -- an edit that steps is accepted, and the program is the one after the longer history

@@ -11,4 +11,7 @@ pub mod Joined
 pub mod Outcomes
 pub mod Short
 pub mod Endings
-pub mod Words3
+pub mod OneOutcome
+pub mod FourRefusals
+pub mod FirstLaws
+pub mod ThreeWords

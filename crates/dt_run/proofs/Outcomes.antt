@@ -53,10 +53,10 @@ as_many (edit ∷ edits) h = ap (λ n. suc n) (as_many edits (next_history h edi
 abbrev Stepping : History → List Edit → History → Type 0
 Stepping whole edits h = whole ≡ h ++ accepted (single edits) (lines_from h edits) → EditsStepFrom whole (length h) (single edits) (lines_from h edits)
 
-step_one : (p : Program) (edit : Edit) (r : Result Program Why) → step p edit ≡ r → step_batch p (edit ∷ []) ≡ and_then r 1 (λ s. step_from 2 s [])
+pub step_one : (p : Program) (edit : Edit) (r : Result Program Why) → step p edit ≡ r → step_batch p (edit ∷ []) ≡ and_then r 1 (λ s. step_from 2 s [])
 step_one p edit r e = ap (λ x. and_then x 1 (λ s. step_from 2 s [])) e
 
-before_it : (whole h more : History) → whole ≡ h ++ more → take (length h) whole ≡ h
+pub before_it : (whole h more : History) → whole ≡ h ++ more → take (length h) whole ≡ h
 before_it whole h more e = ap (take (length h)) e ∙ take-append_seam h more
 
 stepping_by : (whole h : History) (edit : Edit) (edits : List Edit) → ((g : History) → Stepping whole edits g) → (r : Result Program Why) → step (after h) edit ≡ r → whole ≡ h ++ accepted ((edit ∷ []) ∷ single edits) (line_by (length h) r ∷ lines_from (history_by h edit r) edits) → EditsStepFrom whole (length h) ((edit ∷ []) ∷ single edits) (line_by (length h) r ∷ lines_from (history_by h edit r) edits)

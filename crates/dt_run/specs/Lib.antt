@@ -19,3 +19,4 @@ pub mod Text
 pub mod Spaced
 pub mod Status
 pub mod Run
+pub mod FirstLaws

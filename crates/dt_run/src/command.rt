@@ -15,7 +15,7 @@ fn is_word(words: &ArgWords, place: usize, text: &str) -> bool
 }
 
 /// Whether the words are the command.
-#[tactic(auto, using(crate::proofs::Words3::three_words))]
+#[tactic(auto, using(crate::proofs::ThreeWords::three_words))]
 pub fn is_command(words: &ArgWords) -> bool
     ensures { IsTrue result ↔ (words.now ≡ run_words) }
 {

@@ -4,6 +4,7 @@
 mod arg_words;
 mod command;
 mod cut;
+mod first_laws;
 mod first_script;
 mod limits;
 mod line;
@@ -22,6 +23,7 @@ mod turnstile;
 mod words;
 
 pub use arg_words::ArgWords;
+pub use first_laws::{one_outcome, only_four_refusals};
 pub use log::{CallLine, EditLine, Log, PartLog, PhaseLog, Stamped};
 pub use run_script::{Ran, run};
 pub use status::Status;

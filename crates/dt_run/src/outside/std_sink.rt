@@ -11,9 +11,12 @@ pub struct StdSink<T> {
     faults: u64,
 }
 
-impl<T> StdSink<T> {
+impl<T: Write> StdSink<T> {
     /// A sink that writes to this writer.
-    pub fn new(inner: T) -> StdSink<T> {
+    pub fn new(inner: T) -> StdSink<T>
+        ensures taken { ⟦<StdSink<T> as Sink>⟧.taken result ≡ T.contents inner }
+        ensures faults { ⟦<StdSink<T> as Sink>⟧.faults result ≡ 0 }
+    {
         StdSink { inner, faults: 0 }
     }
 }

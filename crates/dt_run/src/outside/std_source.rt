@@ -10,9 +10,12 @@ pub struct StdSource<T> {
     faults: u64,
 }
 
-impl<T> StdSource<T> {
+impl<T: Read> StdSource<T> {
     /// A source that reads from this reader.
-    pub fn new(inner: T) -> StdSource<T> {
+    pub fn new(inner: T) -> StdSource<T>
+        ensures left { ⟦<StdSource<T> as Source>⟧.left result ≡ T.remaining inner }
+        ensures faults { ⟦<StdSource<T> as Source>⟧.faults result ≡ 0 }
+    {
         StdSource { inner, faults: 0 }
     }
 }

@@ -1,0 +1,40 @@
+-- Two laws of first scripts: which refusals they can meet, and that their outcome is determined.
+use Rattle.std.specs.Prelude.{◌≡◌, ℕ, List, [], ◌∷◌}
+use Rattle.dt_definitions.specs.declared.why.Why.{Why}
+use Rattle.dt_definitions.specs.declared.why.Why.TheVariants.{ClassExists, ClassUnknown, SelectorExists, SelectorUnknown}
+use Rattle.dt_run.specs.Line.{Line}
+use Rattle.dt_run.specs.FirstScript.{IsFirstScript}
+use Rattle.dt_run.specs.Script.{script_of}
+use Rattle.dt_run.specs.Log.{Log, PhaseLog}
+use Rattle.dt_run.specs.Outcome.{Outcome}
+use Rattle.dt_run.specs.declared.log.EditLine.{EditLine}
+use Rattle.dt_run.specs.declared.log.EditLine.TheVariants.{Accepted, Refused}
+
+-- the refusals that a first script can meet
+abbrev pub IsFirstRefusal : Why → Type 0
+IsFirstRefusal ClassExists = Unit {0}
+IsFirstRefusal (ClassUnknown class) = Unit {0}
+IsFirstRefusal SelectorExists = Unit {0}
+IsFirstRefusal SelectorUnknown = Unit {0}
+IsFirstRefusal _ = ⊥
+
+-- each line tells of an accepted edit, or of one of these refusals
+abbrev pub AreFirstLines : List EditLine → Type 0
+AreFirstLines [] = Unit {0}
+AreFirstLines (Accepted version ∷ lines) = AreFirstLines lines
+AreFirstLines (Refused at why ∷ lines) = IsFirstRefusal why × AreFirstLines lines
+AreFirstLines (_ ∷ lines) = ⊥
+
+-- the same of each phase
+abbrev pub AreFirstPhases : List PhaseLog → Type 0
+AreFirstPhases [] = Unit {0}
+AreFirstPhases (phase ∷ phases) = AreFirstLines phase.edits × AreFirstPhases phases
+
+-- In a first script an edit is accepted, or refused for one of four causes.
+abbrev pub OnlyFourRefusals : Type 0
+OnlyFourRefusals = (bytes : List ℕ) (lines : List Line) (log : Log)
+    → IsFirstScript bytes lines → Outcome (script_of lines) log → AreFirstPhases log.phases
+
+-- The outcome of a first script is determined.
+abbrev pub OneOutcome : Type 0
+OneOutcome = (lines : List Line) (a b : Log) → Outcome (script_of lines) a → Outcome (script_of lines) b → a ≡ b

@@ -1,0 +1,13 @@
+ghost use Rattle.dt_run.specs.FirstLaws.{OnlyFourRefusals, OneOutcome};
+
+/// In a first script an edit is accepted, or refused for one of four causes: the class exists, a class is unknown, the
+/// selector exists, the selector is unknown. It does nothing: its contract is the law.
+pub fn only_four_refusals()
+    ensures { OnlyFourRefusals }
+{}
+
+/// The outcome of a first script is determined: two logs that are outcomes of it are equal. It does nothing: its
+/// contract is the law.
+pub fn one_outcome()
+    ensures { OneOutcome }
+{}
