@@ -1,6 +1,6 @@
 #!/bin/sh
 # What the gate can't run: a pipe that is closed before the text is put, a device that takes nothing, an input that
-# fails, and each allocation failing in turn (an argument says how many; the default takes some minutes).
+# fails, and each request for memory failing in turn.
 set -eu
 cd "$(dirname "$0")/.."
 script=examples/override.dispatch
@@ -12,7 +12,7 @@ expect() {
 }
 
 # The reader is gone before the first byte is put. Where the signal of a closed pipe isn't ignored it ends the process.
-status=$( ( (trap '' PIPE; sleep 0.5; ./dispatch run --table sti <"$script"; echo $? >&3) | true) 3>&1 )
+status=$( ( (trap '' PIPE; sleep 0.5; ended=0; ./dispatch run --table sti <"$script" || ended=$?; echo $ended >&3) | true) 3>&1 )
 expect "a closed pipe" "$status" 5
 status=0
 ./dispatch run --table sti <"$script" >/dev/full || status=$?
@@ -21,19 +21,41 @@ status=0
 ./dispatch run --table sti </ >/dev/null || status=$?
 expect "an input that can't be read" "$status" 4
 
-# One numbered request for memory fails: the status is 0 or 6, and at 6 no byte of the log was put.
-cd crates/dispatch_cli
+# Each request for memory fails in turn: the status is 0 or 6, and at 6 no byte of the log was put. A small library that
+# is loaded before the C library counts the requests and refuses one; without a C compiler this part is left out.
+command -v cc >/dev/null || { echo "no C compiler: memory isn't tried"; exit 0; }
+folder=$(mktemp -d)
+trap 'rm -rf "$folder"' EXIT
+cat >"$folder/refuse.c" <<'C'
+#define _GNU_SOURCE
+#include <dlfcn.h>
+#include <errno.h>
+#include <stdlib.h>
+static long count, refused = -1;
+static int refuses(void) {
+    if (refused < 0) { const char *n = getenv("REFUSE"); refused = n ? atol(n) : 0; }
+    return ++count == refused;
+}
+#define REAL(name) static __typeof__(&name) real; if (!real) real = dlsym(RTLD_NEXT, #name)
+void *malloc(size_t n) { REAL(malloc); if (refuses()) { errno = ENOMEM; return 0; } return real(n); }
+void *realloc(void *p, size_t n) { REAL(realloc); if (refuses()) { errno = ENOMEM; return 0; } return real(p, n); }
+void *aligned_alloc(size_t a, size_t n) { REAL(aligned_alloc); if (refuses()) { errno = ENOMEM; return 0; } return real(a, n); }
+int posix_memalign(void **p, size_t a, size_t n) { REAL(posix_memalign); return refuses() ? ENOMEM : real(p, a, n); }
+C
+cc -shared -fPIC -O1 -o "$folder/refuse.so" "$folder/refuse.c" -ldl
+program=crates/dispatch_cli/out/dispatch_cli
 number=1
-while [ "$number" -le "${1:-60}" ]; do
+refused=0
+while :; do
     status=0
-    rt try --fail-alloc "$number" -- run --table sti <stdin >/tmp/dispatch_try.$$ 2>/dev/null || status=$?
-    grep -v '^checked:\|^run=' /tmp/dispatch_try.$$ >/tmp/dispatch_text.$$ || true
+    REFUSE=$number LD_PRELOAD=$folder/refuse.so "$program" run --table sti <"$script" >"$folder/text" || status=$?
     case $status in
-        0) cmp -s /tmp/dispatch_text.$$ stdout ;;
-        6) [ ! -s /tmp/dispatch_text.$$ ] || [ "$(cat /tmp/dispatch_text.$$)" = "fault memory" ] ;;
+        0) cmp -s "$folder/text" crates/dispatch_cli/stdout ;;
+        6) [ ! -s "$folder/text" ] || [ "$(cat "$folder/text")" = "fault memory" ] ;;
         *) false ;;
-    esac || { echo "allocation $number: status $status is wrong"; exit 1; }
-    echo "allocation $number: status $status"
+    esac || { echo "request $number refused: status $status is wrong"; exit 1; }
+    [ "$status" = 6 ] && refused=$((refused + 1)) && last=$number
+    [ "$number" -ge $((${last:-0} + 200)) ] && break
     number=$((number + 1))
 done
-rm -f /tmp/dispatch_try.$$ /tmp/dispatch_text.$$
+echo "memory: of $number requests tried, $refused refusals ended with status 6, the last at request ${last:-0}; all others with status 0 and the whole text"

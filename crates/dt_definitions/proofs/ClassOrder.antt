@@ -1,7 +1,6 @@
 -- The order of lists of classes: it is strict and total, and lists that are the same are equal.
-use Rattle.std.proofs.Common.{◌≡◌, ℕ, Bool, true, false, List, [], ◌∷◌, eqb, ltb, ◌&&◌, ◌||◌, refl, sym, ap, ◌∙◌, inl, inr, arith, IsTrue}
-use Rattle.std.specs.Prelude.{◌⊎◌}
-use Rattle.std.proofs.lemmas.Bool.{ltb-true, ltb-false, eqb-true, eqb-false, eq-eqb, lt-ltb, and_parts, or_cases, cases_order}
+use Rattle.std.proofs.Common.{◌≡◌, ℕ, false, List, [], ◌∷◌, eqb, refl, arith, IsTrue}
+use Rattle.std.proofs.lemmas.Bool.{eqb-true, eq-eqb, and_parts}
 use Rattle.std.proofs.lemmas.Bool.Decides.{nat_tests}
 use Rattle.dt_definitions.specs.Program.{same_classes, are_classes_before}
 

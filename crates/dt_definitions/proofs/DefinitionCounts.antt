@@ -1,12 +1,12 @@
 -- How many definitions pass a test, after one is placed or taken away.
-use Rattle.std.proofs.Common.{◌≡◌, ℕ, suc, ◌+◌, ◌<◌, ◌≤◌, Bool, true, false, cond, not, List, [], ◌∷◌, ◌++◌, length, filter, find, Option, Some, None, IsTrue, refl, sym, ap, ◌∙◌, subst, arith, eqb, ltb}
+use Rattle.std.proofs.Common.{◌≡◌, ℕ, suc, ◌+◌, ◌≤◌, Bool, true, false, cond, not, List, [], ◌∷◌, length, filter, IsTrue, refl, sym, ap, arith}
 use Rattle.std.specs.List.{list_any}
 use Rattle.std.specs.Prelude.{nat_lt}
 use Rattle.std.proofs.lemmas.Bool.Decides.{nat_tests}
 use Rattle.dt_graph.specs.Graph.{has_number}
-use Rattle.dt_definitions.specs.Program.{Definition, same_classes, is_definition, is_definition_before, place_definition}
+use Rattle.dt_definitions.specs.Program.{Definition, is_definition, is_definition_before, place_definition}
 use Rattle.dt_definitions.specs.Lawful.{AscendingDefinitions}
-use Rattle.dt_definitions.proofs.DefinitionOrder.{def_before-trans, def_before-asym, def_before-differs, def_before-total, is_definition-equal, is_definition-refl, StandsFirst, stands_first-trans, ascending-tail, ascending-first}
+use Rattle.dt_definitions.proofs.DefinitionOrder.{def_before-differs, is_definition-equal, StandsFirst, stands_first-trans, ascending-tail, ascending-first}
 
 -- a test of the selector and the classes alone
 abbrev pub ReadsPlace : (Definition → Bool) → Type 0

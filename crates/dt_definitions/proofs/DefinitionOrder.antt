@@ -1,12 +1,10 @@
 -- The order of definitions, and lists of definitions that ascend in it.
-use Rattle.std.proofs.Common.{◌≡◌, ℕ, ◌+◌, ◌<◌, ◌≤◌, Bool, true, false, cond, not, List, [], ◌∷◌, ◌++◌, length, count_by, filter, find, Option, Some, None, IsTrue, refl, sym, ap, ◌∙◌, subst, arith, eqb, ltb}
-use Rattle.std.specs.List.{list_any}
+use Rattle.std.proofs.Common.{◌≡◌, ℕ, Bool, true, false, cond, List, [], ◌∷◌, filter, IsTrue, refl, arith, eqb}
 use Rattle.std.proofs.lemmas.Bool.{and_parts, eqb-true}
 use Rattle.std.proofs.lemmas.Bool.Decides.{nat_tests}
-use Rattle.dt_definitions.specs.Program.{Definition, same_classes, are_classes_before, is_definition, is_definition_before, place_definition}
+use Rattle.dt_definitions.specs.Program.{Definition, same_classes, is_definition, is_definition_before, place_definition}
 use Rattle.dt_definitions.specs.Lawful.{AscendingDefinitions}
-use Rattle.dt_definitions.specs.Step.{has_definition}
-use Rattle.dt_definitions.proofs.ClassOrder.{same-refl, same-equal, same-sym, before-irrefl, before-trans, before-total, before-asym, before-differs}
+use Rattle.dt_definitions.proofs.ClassOrder.{same-refl, same-equal, same-sym, before-trans, before-total, before-asym, before-differs}
 
 pub def_before-trans : (a b c : Definition)
     → IsTrue (is_definition_before a b) → IsTrue (is_definition_before b c) → IsTrue (is_definition_before a c)

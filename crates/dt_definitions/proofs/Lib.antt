@@ -6,3 +6,8 @@ pub mod DefinitionCounts
 pub mod Rows
 pub mod TableChanges
 pub mod Steps
+pub mod LawfulSteps
+pub mod SelectorUndo
+pub mod DefinitionUndo
+pub mod UndoSteps
+pub mod Undoing

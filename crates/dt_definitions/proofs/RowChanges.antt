@@ -1,14 +1,13 @@
 -- What a change of a row does to its definitions, and that the row still ascends.
-use Rattle.std.proofs.Common.{◌≡◌, ℕ, zero, suc, ◌+◌, ◌<◌, ◌≤◌, Bool, true, false, cond, not, List, [], ◌∷◌, ◌++◌, length, get_or, set, take, drop, filter, IsTrue, refl, sym, ap, ◌∙◌, subst, arith, eqb, ltb}
-use Rattle.std.specs.List.{insert, remove, find}
-use Rattle.std.specs.Prelude.{Option, Some, None, Result, Ok, Err}
+use Rattle.std.proofs.Common.{◌≡◌, ℕ, zero, suc, ◌<◌, ◌≤◌, true, false, cond, not, List, [], ◌∷◌, length, get_or, set, filter, IsTrue, refl, subst, arith}
+use Rattle.std.specs.List.{insert, remove}
+use Rattle.std.specs.Prelude.{Some, None, Ok, Err}
 use Rattle.std.proofs.lemmas.Bool.{eq-eqb, le-ltb}
-use Rattle.std.proofs.lemmas.Bool.Decides.{nat_tests}
-use Rattle.dt_definitions.specs.Program.{Definition, same_classes, are_classes_before, is_definition, is_definition_before, place_definition}
-use Rattle.dt_definitions.specs.DefinitionRows.{definition_of, with_selector, StandsBefore, RowAscends, first_place, body_in, Searched}
+use Rattle.dt_definitions.specs.Program.{same_classes, are_classes_before, is_definition, is_definition_before, place_definition}
+use Rattle.dt_definitions.specs.DefinitionRows.{with_selector, StandsBefore, RowAscends, first_place, body_in, Searched}
 use Rattle.dt_definitions.specs.declared.defined.Defined.{Defined}
-use Rattle.dt_definitions.proofs.ClassOrder.{same-refl, same-equal, same-sym, before-irrefl, before-trans, before-total, before-asym, before-differs}
-use Rattle.dt_definitions.proofs.RowOrder.{stands-trans, stands-at, stands-absent, first_place-within, body-found}
+use Rattle.dt_definitions.proofs.ClassOrder.{same-equal, same-sym, before-total, before-asym, before-differs}
+use Rattle.dt_definitions.proofs.RowOrder.{stands-trans, stands-absent, first_place-within, body-found}
 
 abbrev pub defined_as : List ℕ → ℕ → Defined
 defined_as classes body = record { classes = classes; body = body }

@@ -1,14 +1,12 @@
 -- Places in a row that ascends.
-use Rattle.std.proofs.Common.{◌≡◌, ℕ, zero, suc, ◌+◌, ◌<◌, ◌≤◌, Bool, true, false, cond, not, List, [], ◌∷◌, ◌++◌, length, get_or, set, filter, IsTrue, refl, sym, ap, ◌∙◌, subst, arith}
-use Rattle.std.specs.List.{insert, remove, list_any, find, HoldsAt}
+use Rattle.std.proofs.Common.{◌≡◌, ℕ, zero, suc, ◌<◌, ◌≤◌, true, false, List, [], ◌∷◌, length, get_or, IsTrue, refl, ap, arith}
+use Rattle.std.specs.List.{HoldsAt}
 use Rattle.std.proofs.lemmas.List.{get_or_default}
-use Rattle.std.specs.Option.{option_map}
-use Rattle.std.specs.Prelude.{Option, Some, None, Ok, is_some}
-use Rattle.std.proofs.lemmas.Bool.{false≢true}
-use Rattle.dt_definitions.specs.Program.{Definition, same_classes, are_classes_before, is_definition, is_definition_before, place_definition}
-use Rattle.dt_definitions.specs.DefinitionRows.{definition_of, with_selector, StandsBefore, RowAscends, first_place, body_in, Searched}
+use Rattle.std.specs.Prelude.{Some, None, Ok, is_some}
+use Rattle.dt_definitions.specs.Program.{same_classes, are_classes_before}
+use Rattle.dt_definitions.specs.DefinitionRows.{StandsBefore, RowAscends, first_place, body_in, Searched}
 use Rattle.dt_definitions.specs.declared.defined.Defined.{Defined}
-use Rattle.dt_definitions.proofs.ClassOrder.{same-refl, same-equal, same-sym, before-irrefl, before-trans, before-total, before-asym, before-differs}
+use Rattle.dt_definitions.proofs.ClassOrder.{same-sym, before-trans, before-total, before-differs}
 
 -- what stands before the first of a list that stands before others stands before those too
 pub stands-trans : (xs ys : List ℕ) (row : List Defined)

@@ -1,12 +1,12 @@
 -- The definitions of rows, by the number of the first row's selector.
-use Rattle.std.proofs.Common.{◌≡◌, ℕ, zero, suc, ◌+◌, ◌<◌, ◌≤◌, Bool, true, false, cond, not, List, [], ◌∷◌, ◌++◌, length, get_or, set, map, filter, find, Option, Some, None, IsTrue, refl, sym, ap, ◌∙◌, subst, arith, eqb, ltb}
+use Rattle.std.proofs.Common.{◌≡◌, ℕ, zero, suc, ◌+◌, ◌<◌, Bool, not, List, [], ◌∷◌, ◌++◌, length, get_or, set, filter, find, IsTrue, refl, sym, ◌∙◌, subst, arith, eqb}
 use Rattle.std.specs.List.{list_any}
-use Rattle.std.proofs.lemmas.Bool.{eq-eqb, ne_eqb, eqb-true, lt-ltb}
+use Rattle.std.proofs.lemmas.Bool.{eq-eqb, ne_eqb}
 use Rattle.std.proofs.lemmas.Bool.Decides.{nat_tests}
 use Rattle.std.proofs.lemmas.List.{append-nil}
 use Rattle.std.proofs.lemmas.List.Elements.{filter-append}
-use Rattle.dt_definitions.specs.Program.{Definition, is_definition, is_definition_before, place_definition}
-use Rattle.dt_definitions.specs.DefinitionRows.{DefinitionRow, definition_of, with_selector, definitions_from, NoneDefined}
+use Rattle.dt_definitions.specs.Program.{Definition, is_definition, place_definition}
+use Rattle.dt_definitions.specs.DefinitionRows.{DefinitionRow, with_selector, definitions_from, NoneDefined}
 use Rattle.dt_definitions.specs.declared.defined.Defined.{Defined}
 use Rattle.dt_definitions.proofs.DefinitionOrder.{StandsFirst}
 

@@ -1,17 +1,17 @@
 -- Steps of edits: what a cause, or none, says of a step; how many definitions a step leaves.
-use Rattle.std.proofs.Common.{◌≡◌, ℕ, ◌+◌, ◌<◌, ◌≤◌, Bool, true, false, cond, not, List, [], ◌∷◌, length, filter, option_map, Option, Some, None, Ok, Err, IsTrue, refl, sym, ap, ◌∙◌, arith, leb, ◌&&◌}
+use Rattle.std.proofs.Common.{◌≡◌, ℕ, ◌≤◌, Bool, true, false, not, List, [], ◌∷◌, length, filter, option_map, Option, Some, None, Ok, Err, refl, sym, ap, ◌∙◌, arith, leb, ◌&&◌}
 use Rattle.std.specs.List.{list_any}
-use Rattle.std.proofs.lemmas.Bool.{leb-false, cases_Bool}
+use Rattle.std.proofs.lemmas.Bool.{leb-false}
 use Rattle.dt_graph.specs.Refusal.{cause_if, first_cause, ok_unless}
 use Rattle.dt_graph.specs.GraphChange.{first_unknown}
-use Rattle.dt_graph.specs.Graph.{Graph}
-use Rattle.dt_selectors.specs.Selectors.{Selector, has_selector}
+use Rattle.dt_selectors.specs.Selectors.{has_selector}
 use Rattle.dt_definitions.specs.Program.{Definition, Program, is_definition, place_definition}
 use Rattle.dt_definitions.specs.Lawful.{AscendingDefinitions}
-use Rattle.dt_definitions.specs.Step.{why_of, has_definition, arity_differs, refusal, effect, step}
+use Rattle.dt_definitions.specs.Step.{why_of, has_definition, arity_differs, refusal, effect, step, with_definitions}
 use Rattle.dt_definitions.specs.declared.limits.TheConstants.{DEFINITIONS}
 use Rattle.dt_definitions.specs.declared.edit.Edit.{Edit}
-use Rattle.dt_definitions.specs.declared.edit.Edit.TheVariants.{Define, Undefine}
+use Rattle.dt_definitions.specs.declared.edit.Edit.TheVariants.{Define}
+use Rattle.dt_graph.specs.declared.graph_fault.GraphFault.{GraphFault}
 use Rattle.dt_definitions.specs.declared.why.Why.{Why}
 use Rattle.dt_definitions.specs.declared.why.Why.TheVariants as why
 use Rattle.dt_definitions.proofs.DefinitionCounts.{count-place_new, count-place_again, length_is_count, all_read_place}
@@ -63,7 +63,7 @@ pub record MayDefine (p : Program) (selector : ℕ) (classes : List ℕ) : Type 
   pub live : first_unknown p.graph classes ≡ None
   pub few : (leb DEFINITIONS (length p.definitions) && not (has_definition p selector classes)) ≡ false
 
-none_mapped : (o : Option _) → option_map why_of o ≡ None → o ≡ None
+pub none_mapped : (o : Option GraphFault) → option_map why_of o ≡ None → o ≡ None
 none_mapped None h = refl
 none_mapped (Some x) h = absurd cc
 
@@ -84,12 +84,9 @@ may_define p selector classes body h =
       few = not_caused (leb DEFINITIONS (length p.definitions) && not (has_definition p selector classes)) why.DefinitionsFull n.1.1.1.0;
     }
 
--- the step of a definition that may be made, on a program shown by its parts
-pub defined_step : (graph : Graph) (selectors : List Selector) (ds : List Definition) (p : Program)
-    (s : ℕ) (cs : List ℕ) (body : ℕ) (new : List Definition)
-    → record { graph = graph; selectors = selectors; definitions = ds } ≡ p
+-- the step of a definition that may be made
+pub defined_step : (p : Program) (s : ℕ) (cs : List ℕ) (body : ℕ) (new : List Definition)
     → None ≡ refusal p (Define s cs body)
-    → new ≡ place_definition (record { selector = s; classes = cs; body = body }) ds
-    → step p (Define s cs body) ≡ Ok (record { graph = graph; selectors = selectors; definitions = new })
-defined_step graph selectors ds p s cs body new v h e =
-    accepted p (Define s cs body) h ∙ rw (← v, e) refl
+    → new ≡ place_definition (record { selector = s; classes = cs; body = body }) p.definitions
+    → step p (Define s cs body) ≡ Ok (with_definitions p new)
+defined_step p s cs body new h e = accepted p (Define s cs body) h ∙ rw e refl

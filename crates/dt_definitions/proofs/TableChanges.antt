@@ -1,20 +1,20 @@
 -- A table keeps what holds of it when a definition is put in or taken out.
-use Rattle.std.proofs.Common.{◌≡◌, ℕ, zero, suc, ◌+◌, ◌-◌, ◌<◌, ◌≤◌, Bool, true, false, cond, not, List, [], ◌∷◌, ◌++◌, length, get_or, set, map, take, drop, replicate, filter, find, option_map, Option, Some, None, is_some, is_none, IsTrue, slice_index, refl, sym, ap, ◌∙◌, subst, arith, eqb, ltb}
-use Rattle.std.specs.List.{list_any, AllClonesOf}
-use Rattle.std.proofs.lemmas.Bool.{cases_eq, eq-eqb}
+use Rattle.std.proofs.Common.{◌≡◌, ℕ, zero, suc, ◌+◌, ◌-◌, ◌<◌, ◌≤◌, Bool, true, false, cond, not, List, [], ◌∷◌, ◌++◌, length, get_or, set, take, drop, replicate, filter, find, option_map, Option, Some, None, is_some, is_none, IsTrue, slice_index, refl, sym, ap, ◌∙◌, arith, eqb}
+use Rattle.std.specs.List.{list_any}
+use Rattle.std.proofs.lemmas.Bool.{eq-eqb}
 use Rattle.std.proofs.lemmas.Bool.Decides.{nat_tests}
-use Rattle.std.proofs.lemmas.List.{take_at, map-set, get_or-set_same, get_or-set_other, get_or_default, set_past, length-map, length-set, get_or_past, get_or_read, length-replicate, get_or-replicate}
+use Rattle.std.proofs.lemmas.List.{take_at, length-map, length-replicate, get_or-replicate}
 use Rattle.std.proofs.lemmas.List.Folds.{list_any_at}
 use Rattle.dt_graph.specs.Graph.{has_number}
 use Rattle.dt_graph.specs.declared.limits.TheConstants.{CLASSES}
 use Rattle.dt_selectors.specs.declared.limits.TheConstants.{SELECTORS}
 use Rattle.dt_definitions.specs.declared.limits.TheConstants.{DEFINITIONS}
 use Rattle.dt_definitions.specs.declared.defined.Defined.{Defined}
-use Rattle.dt_definitions.specs.Program.{Definition, same_classes, is_definition, place_definition, body_of}
-use Rattle.dt_definitions.specs.DefinitionRows.{DefinitionRow, with_selector, definitions_from, rooms_of, body_in, naming_count, TableKept, NoneDefined}
+use Rattle.dt_definitions.specs.Program.{Definition, is_definition, place_definition, body_of}
+use Rattle.dt_definitions.specs.DefinitionRows.{DefinitionRow, with_selector, definitions_from, rooms_of, body_in, naming_count, TableKept, NoneDefined, HaveSameDefinitions, HasRoomFor, shown_by}
 use Rattle.dt_definitions.proofs.DefinitionOrder.{place-ascends, filter-ascends, is_definition-equal}
-use Rattle.dt_definitions.proofs.DefinitionCounts.{count-place_new, count-place_again, count-filter, filter-absent, length_is_count, count-le_length, all_read_place, naming_reads_place, any_by_count}
-use Rattle.dt_definitions.proofs.Rows.{none_from_empty, of_row, any_of, find_of}
+use Rattle.dt_definitions.proofs.DefinitionCounts.{count-place_new, count-place_again, count-filter, length_is_count, count-le_length, all_read_place, naming_reads_place}
+use Rattle.dt_definitions.proofs.Rows.{none_from_empty, of_row, find_of}
 
 -- a row's body is the body among its selector's definitions
 pub body_in_row : (s : ℕ) (cs : List ℕ) (row : List Defined)
@@ -198,3 +198,42 @@ kept_empty rows l n =
       names_counted = λ class c. get_or-replicate CLASSES class 0 0 c ∙ ap (naming_count class) (sym e);
       ascends = rw e tt;
     }
+
+-- rows with the same definitions
+pub same_push : (rows news : List DefinitionRow) (row new : DefinitionRow)
+    → HaveSameDefinitions rows news → new.defined ≡ row.defined → HaveSameDefinitions (rows ++ row ∷ []) (news ++ new ∷ [])
+same_push [] [] row new h e = (e, tt)
+same_push [] (n ∷ news) row new h e = absurd h
+same_push (r ∷ rows) [] row new h e = absurd h
+same_push (r ∷ rows) (n ∷ news) row new h e = (h.0, same_push rows news row new h.1 e)
+
+pub same_length : (rows news : List DefinitionRow) → HaveSameDefinitions rows news → length news ≡ length rows
+same_length [] [] h = refl
+same_length [] (n ∷ news) h = absurd h
+same_length (r ∷ rows) [] h = absurd h
+same_length (r ∷ rows) (n ∷ news) h = ap suc (same_length rows news h.1)
+
+pub same_definitions : (k : ℕ) (rows news : List DefinitionRow) → HaveSameDefinitions rows news → definitions_from k news ≡ definitions_from k rows
+same_definitions k [] [] h = refl
+same_definitions k [] (n ∷ news) h = absurd h
+same_definitions k (r ∷ rows) [] h = absurd h
+same_definitions k (r ∷ rows) (n ∷ news) h = let rest = same_definitions (k + 1) rows news h.1 in rw (h.0, rest) refl
+
+-- a row that has lost a definition has room for it, and so has the table
+pub room_for : (rows : List DefinitionRow) (i s : ℕ) (cs : List ℕ) (r : DefinitionRow)
+    → s ≡ i → i < length rows → r ≡ get_or rows i r → length r.defined < r.room → HasRoomFor (shown_by rows) s cs
+room_for rows i s cs r e l g room = λ _.
+    let of = ap length (of_row rows 0 i s r (omega arith) l g) in
+    let at = ap (slice_index (rooms_of rows)) e ∙ room_at rows i r l g in
+    rw at (omega (arith, of, length_with s r.defined))
+
+-- and a table that has room for a definition has it in the row
+pub room_in : (rows : List DefinitionRow) (i s : ℕ) (cs : List ℕ) (r : DefinitionRow)
+    → s ≡ i → i < length rows → r ≡ get_or rows i r → HasRoomFor (shown_by rows) s cs
+    → body_in r.defined cs ≡ None → length r.defined < r.room
+room_in rows i s cs r e l g has none =
+    let of = ap length (of_row rows 0 i s r (omega arith) l g) in
+    let at = ap (slice_index (rooms_of rows)) e ∙ room_at rows i r l g in
+    let absent = sym (some_body s cs (definitions_from 0 rows)) ∙ ap is_some (sym (body_from_rows rows i s cs r e l g) ∙ none) in
+    let room = rw at at (has absent) in
+    omega (arith, of, length_with s r.defined, room)

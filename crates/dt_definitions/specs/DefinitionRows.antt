@@ -1,12 +1,12 @@
 -- How the definitions are kept: a row for each selector, in ascending order of class lists.
-use Rattle.std.specs.Prelude.{◌≡◌, ℕ, suc, ◌+◌, ◌<◌, if◌then◌else◌, IsTrue, List, [], ◌∷◌, ◌++◌, length, Option, None, IsSome, Result, Ok, Err, map, filter, find, slice_index}
-use Rattle.std.specs.List.{HoldsAt}
+use Rattle.std.specs.Prelude.{◌≡◌, ◌==◌, ℕ, false, ◌≤◌, suc, ◌+◌, ◌<◌, if◌then◌else◌, IsTrue, List, [], ◌∷◌, ◌++◌, length, Option, None, IsSome, Result, Ok, Err, map, filter, find, slice_index}
+use Rattle.std.specs.List.{HoldsAt, list_any}
 use Rattle.std.specs.Option.{option_map}
 use Rattle.dt_graph.specs.Graph.{has_number}
 use Rattle.dt_graph.specs.declared.limits.TheConstants.{CLASSES}
 use Rattle.dt_selectors.specs.declared.limits.TheConstants.{SELECTORS}
 use Rattle.dt_definitions.specs.Lawful.{AscendingDefinitions}
-use Rattle.dt_definitions.specs.Program.{Definition, same_classes, are_classes_before}
+use Rattle.dt_definitions.specs.Program.{Definition, same_classes, are_classes_before, is_definition}
 use Rattle.dt_definitions.specs.declared.defined.Defined.{Defined}
 
 -- a selector's definitions, and how many of them there is room for without more memory
@@ -34,6 +34,10 @@ definitions_from selector (row ∷ rows) = with_selector selector row.defined ++
 abbrev pub rooms_of : List DefinitionRow → List ℕ
 rooms_of rows = map (λ row. row.room) rows
 
+-- what the rows of all selectors, from the first, stand for
+abbrev pub shown_by : List DefinitionRow → Definitions
+shown_by rows = record { all = definitions_from 0 rows; rooms = rooms_of rows }
+
 -- the classes stand before those of every definition of the row
 abbrev pub StandsBefore : List ℕ → List Defined → Type 0
 StandsBefore classes [] = Unit {0}
@@ -60,10 +64,27 @@ Searched row classes (Ok place) =
     × HoldsAt (λ d. IsTrue (same_classes d.classes classes)) row place × IsSome (body_in row classes)
 Searched row classes (Err place) = (place ≡ first_place classes row) × (body_in row classes ≡ None)
 
+-- the selector is defined at these classes already, or its row has room for one more definition
+abbrev pub HasRoomFor : Definitions → ℕ → List ℕ → Type 0
+HasRoomFor definitions selector classes =
+    list_any (is_definition selector classes) definitions.all ≡ false
+    → length (filter (λ d. d.selector == selector) definitions.all) < slice_index definitions.rooms selector
+
+-- each row has as much room as before, or more
+abbrev pub RoomStays : List ℕ → List ℕ → Type 0
+RoomStays old new = (selector : ℕ) → slice_index old selector ≤ slice_index new selector
+
 -- no row has a definition
 abbrev pub NoneDefined : List DefinitionRow → Type 0
 NoneDefined [] = Unit {0}
 NoneDefined (row ∷ rows) = (row.defined ≡ []) × NoneDefined rows
+
+-- row by row, the definitions are the same
+abbrev pub HaveSameDefinitions : List DefinitionRow → List DefinitionRow → Type 0
+HaveSameDefinitions [] [] = Unit {0}
+HaveSameDefinitions [] (new ∷ news) = ⊥
+HaveSameDefinitions (row ∷ rows) [] = ⊥
+HaveSameDefinitions (row ∷ rows) (new ∷ news) = (new.defined ≡ row.defined) × HaveSameDefinitions rows news
 
 -- how many definitions name the class
 abbrev pub naming_count : ℕ → List Definition → ℕ

@@ -2,10 +2,13 @@
 use Rattle.std.specs.Prelude.{◌≡◌, ◌<◌, ◌≤◌, IsTrue, List, [], ◌∷◌, length, Some, All}
 use Rattle.dt_graph.specs.Graph.{is_live}
 use Rattle.dt_graph.specs.Lawful.{LawfulGraph}
-use Rattle.dt_selectors.specs.Lawful.{LawfulSelectors}
+use Rattle.dt_graph.specs.declared.limits.TheConstants.{CLASSES}
+use Rattle.dt_selectors.specs.Lawful.{LawfulSelector, LawfulSelectors}
 use Rattle.dt_selectors.specs.declared.limits.TheConstants.{BODIES}
 use Rattle.dt_definitions.specs.Program.{Definition, Program, arity_of, is_definition_before}
 use Rattle.dt_definitions.specs.declared.limits.TheConstants.{DEFINITIONS}
+use Rattle.dt_definitions.specs.declared.edit.Edit.{Edit}
+use Rattle.dt_definitions.specs.declared.edit.Edit.TheVariants.{AddClass, DropClass, Link, Unlink, AddSelector, DropSelector, Define, Undefine}
 
 -- each definition stands before the next
 abbrev pub AscendingDefinitions : List Definition → Type 0
@@ -27,3 +30,14 @@ pub record Lawful (program : Program) : Type 0 where
   pub definitions_ascend : AscendingDefinitions program.definitions
   pub definitions_lawful : All (LawfulDefinition program) program.definitions
   pub few_definitions : length program.definitions ≤ DEFINITIONS
+
+-- the numbers that an edit brings into a program are in range; those of every `Edit` are
+abbrev pub IsInRange : Edit → Type 0
+IsInRange (AddClass class parents) = class < CLASSES
+IsInRange (DropClass class) = Unit {0}
+IsInRange (Link class parent) = Unit {0}
+IsInRange (Unlink class parent) = Unit {0}
+IsInRange (AddSelector selector arity) = LawfulSelector (record { number = selector; arity = arity })
+IsInRange (DropSelector selector) = Unit {0}
+IsInRange (Define selector classes body) = body < BODIES
+IsInRange (Undefine selector classes) = Unit {0}

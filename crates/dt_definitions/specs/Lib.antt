@@ -1,6 +1,9 @@
 pub mod DefinitionRows
+pub mod Examples
 pub mod Lawful
+pub mod Parts
 pub mod Place
 pub mod Program
 pub mod Step
 pub mod TupleForm
+pub mod Undo

@@ -1,10 +1,10 @@
 -- What an edit and a batch of edits do to a program, or the first cause for which they are refused.
-use Rattle.std.specs.Prelude.{◌≡◌, ◌==◌, ℕ, ◌+◌, Bool, false, ◌&&◌, not, if◌then◌else◌, nat_le, List, [], ◌∷◌, length, Option, None, Some, Result, Ok, Err, filter}
+use Rattle.std.specs.Prelude.{◌≡◌, ◌==◌, ℕ, ◌+◌, Bool, false, ◌&&◌, not, nat_le, List, [], ◌∷◌, length, Option, Result, Ok, Err, filter}
 use Rattle.std.specs.List.{list_any}
 use Rattle.std.specs.Option.{option_map, option_map_or}
 use Rattle.std.specs.Result.{result_unwrap_or}
 use Rattle.dt_graph.specs.Refusal.{cause_if, first_cause, ok_unless}
-use Rattle.dt_graph.specs.Graph.{Graph, has_number, is_live}
+use Rattle.dt_graph.specs.Graph.{Graph, has_number}
 use Rattle.dt_graph.specs.GraphChange.{add_cause, add_effect, drop_cause, drop_effect, link_cause, link_effect, unlink_cause, unlink_effect, first_unknown}
 use Rattle.dt_graph.specs.declared.graph_fault.GraphFault.{GraphFault}
 use Rattle.dt_selectors.specs.declared.selectors.SelectorFault.{SelectorFault}
@@ -18,6 +18,8 @@ use Rattle.dt_definitions.specs.declared.why.Why.{Why}
 use Rattle.dt_definitions.specs.declared.why.Why.TheVariants as why
 use Rattle.dt_definitions.specs.declared.why.ApplyFault.{ApplyFault}
 use Rattle.dt_definitions.specs.declared.why.ApplyFault.TheVariants as apply_fault
+use Rattle.dt_definitions.specs.declared.why.BatchFault.{BatchFault}
+use Rattle.dt_definitions.specs.declared.why.BatchFault.TheVariants as batch_fault
 use Rattle.dt_graph.specs.declared.graph_fault.GraphFault.TheVariants as fault
 
 -- a refusal by the class graph, as the refusal of an edit
@@ -145,3 +147,15 @@ abbrev pub Applies : Program → Edit → Program → Result (Unit {0}) ApplyFau
 Applies old edit new (Ok _) = step old edit ≡ Ok new
 Applies old edit new (Err (apply_fault.Refused why)) = (step old edit ≡ Err why) × (new ≡ old)
 Applies old edit new (Err apply_fault.NoMemory) = new ≡ old
+
+-- what the answer of a batch says of the programs before and after it; want of memory may come instead of any
+abbrev pub AppliesBatch : Program → List Edit → Program → Result (Unit {0}) BatchFault → Type 0
+AppliesBatch old edits new (Ok _) = step_batch old edits ≡ Ok new
+AppliesBatch old edits new (Err (batch_fault.Refused at why)) =
+    (step_batch old edits ≡ Err (record { at = at; why = why })) × (new ≡ old)
+AppliesBatch old edits new (Err batch_fault.NoMemory) = new ≡ old
+
+-- the fault of a batch whose edit at this place has the fault
+abbrev pub fault_at : ℕ → ApplyFault → BatchFault
+fault_at place (apply_fault.Refused why) = batch_fault.Refused place why
+fault_at place apply_fault.NoMemory = batch_fault.NoMemory

@@ -1,4 +1,4 @@
-ghost use Rattle.std.specs.Prelude.{◌≡◌, ◌^◌, ◌<◌, ◌==◌, [], ◌∷◌, ◌++◌, length, IfOk, IfErr, OnOk, OnErr};
+ghost use Rattle.std.specs.Prelude.{◌≡◌, ◌^◌, ◌<◌, ◌≤◌, ◌==◌, [], ◌∷◌, ◌++◌, length, IfOk, IfErr, OnOk, OnErr};
 ghost use Rattle.std.specs.Option.{option_copied};
 ghost use Rattle.dt_definitions.specs.Place.{at_place};
 
@@ -69,12 +69,24 @@ impl Batch {
         self.edits.get(place as usize)
     }
 
+    /// The edits.
+    pub(crate) fn as_slice(&self) -> &[Edit]
+        ensures value { result.now ≡ self.now }
+        ensures in_range { length result.now ≤ 2 ^ 31 }
+    {
+        &self.edits
+    }
+
+    /// The allocator.
+    pub(crate) fn allocator(&self) -> Global {
+        *self.edits.allocator()
+    }
+
     /// An equal batch.
     pub fn copy(&self) -> Result<Batch, NoMemory>
         ensures { IfOk result (λ batch. batch ≡ self.now) }
     {
-        let alloc = *self.edits.allocator();
-        let mut edits = Vec::with_capacity(alloc, self.edits.len())?;
+        let mut edits = Vec::with_capacity(self.allocator(), self.edits.len())?;
         for edit in &self.edits {
             edits.push(edit.copy()?)?;
         }

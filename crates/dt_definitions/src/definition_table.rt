@@ -1,9 +1,9 @@
-ghost use Rattle.std.specs.Prelude.{◌≡◌, ◌==◌, ℕ, ◌+◌, ◌^◌, ◌<◌, ◌≤◌, [], length, filter, not, if◌then◌else◌, slice_index, IsTrue, IfOk, OnOk, OnErr};
+ghost use Rattle.std.specs.Prelude.{◌≡◌, ◌==◌, ℕ, ◌+◌, ◌^◌, ◌<◌, ◌≤◌, [], length, filter, not, if◌then◌else◌, slice_index, IsTrue, IsOk, IfOk, OnOk, OnErr};
 ghost use Rattle.std.specs.List.{list_any};
 ghost use Rattle.dt_graph.specs.Graph.{has_number};
 ghost use Rattle.dt_definitions.specs.declared.limits.TheConstants.{DEFINITIONS};
 ghost use Rattle.dt_definitions.specs.Program.{is_definition, place_definition, body_of};
-ghost use Rattle.dt_definitions.specs.DefinitionRows.{with_selector, definitions_from, rooms_of, NoneDefined};
+ghost use Rattle.dt_definitions.specs.DefinitionRows.{with_selector, definitions_from, rooms_of, shown_by, HasRoomFor, RoomStays, NoneDefined, HaveSameDefinitions};
 
 use crate::defined::Defined;
 use crate::row::Row;
@@ -23,11 +23,11 @@ pub(crate) struct DefinitionTable {
 }
 
 impl Model for DefinitionTable {
-    ghost use Rattle.dt_definitions.specs.DefinitionRows.{Definitions, definitions_from, rooms_of, TableKept};
+    ghost use Rattle.dt_definitions.specs.DefinitionRows.{Definitions, shown_by, TableKept};
 
     ghost Value = { Definitions };
 
-    ghost view = { λ t. record { all = definitions_from 0 t.rows.items; rooms = rooms_of t.rows.items } };
+    ghost view = { λ t. shown_by t.rows.items };
 
     ghost invariant = { λ t. TableKept t.rows.items t.count t.named.items };
 }
@@ -84,9 +84,8 @@ fn put_in(
     ensures is_new { IfOk result (λ is_new. is_new ≡ not (list_any (is_definition selector classes) (definitions_from 0 rows.old.items))) }
     ensures err { OnErr result (definitions_from 0 rows.new.items ≡ definitions_from 0 rows.old.items) }
     ensures all_selectors { length rows.new.items ≡ SELECTORS }
-    ensures room_stays { (s : ℕ) → slice_index (rooms_of rows.old.items) s ≤ slice_index (rooms_of rows.new.items) s }
-    ensures full { OnErr result (slice_index (rooms_of rows.old.items) selector
-        ≤ length (filter (λ d. d.selector == selector) (definitions_from 0 rows.old.items))) }
+    ensures room_stays { RoomStays (rooms_of rows.old.items) (rooms_of rows.new.items) }
+    ensures succeeds { HasRoomFor (shown_by rows.old.items) selector classes → IsOk result }
 {
     rows[selector.number() as usize].put(classes, body)
 }
@@ -99,8 +98,21 @@ fn remove_from(rows: &mut Vec<Row>, selector: SelNo, classes: &[ClassNo]) -> boo
     ensures was_there { result ≡ list_any (is_definition selector classes.now) (definitions_from 0 rows.old.items) }
     ensures all_selectors { length rows.new.items ≡ SELECTORS }
     ensures room_stays { rooms_of rows.new.items ≡ rooms_of rows.old.items }
+    ensures room_left { IsTrue result → HasRoomFor (shown_by rows.new.items) selector classes.now }
 {
     rows[selector.number() as usize].remove(classes)
+}
+
+/// Equal rows.
+fn copy_rows(rows: &Vec<Row>) -> Result<Vec<Row>, NoMemory>
+    ensures { IfOk result (λ copy. HaveSameDefinitions rows.now.items copy.items) }
+{
+    let alloc = *rows.allocator();
+    let mut copy = Vec::with_capacity(alloc, rows.len())?;
+    for row in rows {
+        copy.push(row.copy()?)?;
+    }
+    Ok(copy)
 }
 
 impl DefinitionTable {
@@ -170,9 +182,8 @@ impl DefinitionTable {
         ensures ok { OnOk result (self.new.all
             ≡ place_definition (record { selector = selector; classes = classes; body = body }) self.old.all) }
         ensures err { OnErr result (self.new.all ≡ self.old.all) }
-        ensures room_stays { (s : ℕ) → slice_index self.old.rooms s ≤ slice_index self.new.rooms s }
-        ensures full { OnErr result (slice_index self.old.rooms selector
-            ≤ length (filter (λ d. d.selector == selector) self.old.all)) }
+        ensures room_stays { RoomStays self.old.rooms self.new.rooms }
+        ensures succeeds { HasRoomFor self.old selector classes → IsOk result }
     {
         if put_in(&mut self.rows, selector, classes, body)? {
             self.count += 1;
@@ -185,10 +196,25 @@ impl DefinitionTable {
     pub(crate) fn remove(&mut self, selector: SelNo, classes: &[ClassNo])
         ensures after { self.new.all ≡ filter (λ d. not (is_definition selector classes.now d)) self.old.all }
         ensures room_stays { self.new.rooms ≡ self.old.rooms }
+        ensures room_left { IsTrue (list_any (is_definition selector classes.now) self.old.all)
+            → HasRoomFor self.new selector classes.now }
     {
         if remove_from(&mut self.rows, selector, classes) {
             self.count -= 1;
             count_out(&mut self.named, classes);
         }
+    }
+
+    /// An equal table.
+    pub(crate) fn copy(&self) -> Result<DefinitionTable, NoMemory>
+        ensures { IfOk result (λ table. table.all ≡ self.now.all) }
+    {
+        let rows = copy_rows(&self.rows)?;
+        let named = Vec::from_slice(*self.named.allocator(), &self.named)?;
+        Ok(DefinitionTable {
+            rows,
+            count: self.count,
+            named,
+        })
     }
 }

@@ -1,4 +1,5 @@
 ghost use Rattle.std.specs.Prelude.{◌≡◌, IfOk};
+ghost use Rattle.dt_definitions.specs.Lawful.{IsInRange};
 
 use crate::parents::Parents;
 use crate::tuple::Tuple;
@@ -91,6 +92,25 @@ impl Edit {
                 selector: *selector,
                 classes: *classes,
             }),
+        }
+    }
+
+    /// The numbers of every edit are in range. It does nothing: a caller whose reasoning needs this calls it.
+    pub fn law(&self)
+        ensures { IsInRange self.now }
+    {
+        match self {
+            Edit::AddClass { class, .. } => {
+                let _ = class.number();
+            }
+            Edit::AddSelector { selector, arity } => {
+                let _ = selector.number();
+                let _ = arity.number();
+            }
+            Edit::Define { body, .. } => {
+                let _ = body.number();
+            }
+            _ => {}
         }
     }
 }

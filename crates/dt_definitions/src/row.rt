@@ -1,4 +1,4 @@
-ghost use Rattle.std.specs.Prelude.{◌≡◌, ℕ, ◌≤◌, [], length, filter, not, is_some, is_none, IfOk, OnErr, OnOk};
+ghost use Rattle.std.specs.Prelude.{◌≡◌, ℕ, ◌<◌, ◌≤◌, [], length, filter, not, is_some, is_none, None, IsTrue, IsOk, IfOk, OnErr, OnOk};
 ghost use Rattle.dt_definitions.specs.Program.{same_classes, are_classes_before, place_definition, is_definition};
 ghost use Rattle.dt_definitions.specs.DefinitionRows.{RowAscends, with_selector, first_place, body_in, Searched};
 
@@ -113,7 +113,7 @@ impl Row {
             ≡ place_definition (record { selector = selector; classes = classes; body = body }) (with_selector selector self.old.defined)) }
         ensures err { OnErr result (self.new.defined ≡ self.old.defined) }
         ensures room_stays { self.old.room ≤ self.new.room }
-        ensures full { OnErr result (self.old.room ≤ length self.old.defined) }
+        ensures succeeds { (body_in self.old.defined classes ≡ None → length self.old.defined < self.old.room) → IsOk result }
     {
         match search(&self.defined, classes.classes()) {
             Ok(place) => {
@@ -133,6 +133,7 @@ impl Row {
         ensures after { (selector : ℕ) → with_selector selector self.new.defined
             ≡ filter (λ d. not (is_definition selector classes.now d)) (with_selector selector self.old.defined) }
         ensures room_stays { self.new.room ≡ self.old.room }
+        ensures room_left { IsTrue result → length self.new.defined < self.new.room }
     {
         match search(&self.defined, classes) {
             Ok(place) => {

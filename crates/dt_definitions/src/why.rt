@@ -1,5 +1,5 @@
 ghost use Rattle.std.specs.Prelude.{◌≡◌};
-ghost use Rattle.dt_definitions.specs.Step.{why_of};
+ghost use Rattle.dt_definitions.specs.Step.{why_of, fault_at};
 
 use dt_graph::{ClassNo, GraphFault, NoMemory};
 use dt_selectors::SelectorFault;
@@ -118,5 +118,17 @@ impl From<NoMemory> for ApplyFault {
 
     fn from(_: NoMemory) -> ApplyFault {
         ApplyFault::NoMemory
+    }
+}
+
+impl BatchFault {
+    /// The fault of a batch whose edit at this place has the fault.
+    pub(crate) fn at(place: u32, fault: ApplyFault) -> BatchFault
+        ensures { result ≡ fault_at place fault }
+    {
+        match fault {
+            ApplyFault::Refused { why } => BatchFault::Refused { at: place, why },
+            ApplyFault::NoMemory => BatchFault::NoMemory,
+        }
     }
 }

@@ -12,3 +12,4 @@ pub mod Marks
 pub mod Search
 pub mod Subclasses
 pub mod LiveRows
+pub mod Restored

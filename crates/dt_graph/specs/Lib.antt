@@ -7,4 +7,5 @@ pub mod Lawful
 pub mod Descendants
 pub mod Reached
 pub mod GraphChange
+pub mod Restore
 pub mod Examples

@@ -46,8 +46,7 @@ impl ClassGraph {
         None
     }
 
-    /// Why [`drop_class`](ClassGraph::drop_class) would refuse the class; `None` where it would drop it. A program asks
-    /// before it drops a class that its own definitions name.
+    /// Why [`drop_class`](ClassGraph::drop_class) would refuse to drop the class; `None` exactly where it wouldn't.
     pub fn drop_cause(&self, class: ClassNo) -> Option<GraphFault>
         ensures { result ≡ drop_cause self.now class }
     {

@@ -1,10 +1,13 @@
-ghost use Rattle.std.specs.Prelude.{◌≡◌, ℕ, ◌<◌, ◌≤◌, ◌↔◌, IsTrue, false, [], ◌++◌, IfOk, OnOk, OnErr, None, length};
+ghost use Rattle.std.specs.Prelude.{◌≡◌, ℕ, ◌<◌, ◌≤◌, ◌↔◌, IsTrue, false, [], ◌++◌, if◌then◌else◌, IfOk, OnOk, OnErr, None, length};
 ghost use Rattle.dt_graph.specs.Refusal.{ok_unless};
 ghost use Rattle.dt_graph.specs.Graph.{Graph, empty_graph, is_live, has_link, parent_count};
 ghost use Rattle.dt_graph.specs.Parents.{parents_of};
 ghost use Rattle.dt_graph.specs.Below.{HasNoCycle, is_below};
 ghost use Rattle.dt_graph.specs.Descendants.{descendants};
 ghost use Rattle.dt_graph.specs.Lawful.{LawfulGraph};
+ghost use Rattle.dt_graph.specs.GraphRows.{place_numbers};
+ghost use Rattle.dt_graph.specs.Restore.{restore_effect};
+ghost use Rattle.dt_graph.specs.declared.limits.TheConstants.{PARENTS};
 ghost use Rattle.dt_graph.specs.GraphChange.{add_cause, add_effect, drop_cause, drop_effect, link_cause, link_effect, unlink_cause, unlink_effect, lowest_subclass};
 
 use crate::class_no::ClassNo;
@@ -12,6 +15,7 @@ use crate::graph_fault::GraphFault;
 use crate::limits::CLASSES;
 use crate::no_memory::NoMemory;
 use crate::parents::{Parents, in_order, place, without};
+use arrayvec::ArrayVec;
 use std::alloc::Global;
 use std::marker::Model;
 
@@ -33,12 +37,24 @@ impl Row {
             parents: Parents::new(),
         }
     }
+
+    /// The row of a class that is live with these parents, or of one that isn't.
+    fn restored(is_live: bool, parents: &[ClassNo]) -> Row
+        requires { length parents.now ≤ PARENTS }
+        ensures live { result.is_live ≡ is_live }
+        ensures parents { result.parents.items ≡ (if is_live then place_numbers parents.now [] else []) }
+    {
+        if is_live {
+            return Row {
+                is_live,
+                parents: in_order(parents),
+            };
+        }
+        Row::empty()
+    }
 }
 
 /// The live classes and the links from classes to parents.
-///
-/// Each link joins live classes, a class has at most [`PARENTS`](crate::PARENTS) parents, and no links lead from a
-/// class to itself. [`ClassGraph::law`] tells this to a caller.
 #[derive(Debug, Drop)]
 pub struct ClassGraph {
     rows: Vec<Row>,
@@ -57,8 +73,7 @@ impl Model for ClassGraph {
 }
 
 impl ClassGraph {
-    /// A graph with no class. All memory that it will ever need is taken here, and `NoMemory` is answered where it
-    /// isn't there.
+    /// A graph with no class. All memory that it will ever need is taken here.
     pub fn new(alloc: Global) -> Result<ClassGraph, NoMemory>
         ensures { IfOk result (λ g. g ≡ empty_graph) }
     {
@@ -76,8 +91,8 @@ impl ClassGraph {
         self.rows[class.number() as usize].is_live
     }
 
-    /// The parents of the class, in ascending order.
-    pub(crate) fn parents(&self, class: ClassNo) -> &[ClassNo]
+    /// The parents of the class, in ascending order: none where it isn't live.
+    pub fn parents(&self, class: ClassNo) -> &[ClassNo]
         ensures { result.now ≡ parents_of self.now.links class }
     {
         self.rows[class.number() as usize].parents.as_slice()
@@ -109,8 +124,8 @@ impl ClassGraph {
         None
     }
 
-    /// Appends the live classes at or below `class`, in ascending order. `class` itself need not be live. After
-    /// `NoMemory` the list is as it was.
+    /// Appends the live classes at or below `class`, in ascending order. `class` itself need not be live. Where
+    /// memory is wanting, `out` is as it was.
     pub fn descendants_into(&self, class: ClassNo, out: &mut Vec<ClassNo>) -> Result<(), NoMemory>
         ensures ok { OnOk result (out.new.items ≡ out.old.items ++ descendants self.now class) }
         ensures err { OnErr result (out.new.items ≡ out.old.items) }
@@ -126,7 +141,7 @@ impl ClassGraph {
         Ok(())
     }
 
-    /// An equal graph, from the allocator of this one.
+    /// An equal graph.
     pub fn copy(&self) -> Result<ClassGraph, NoMemory>
         ensures { IfOk result (λ g. g ≡ self.now) }
     {
@@ -141,6 +156,7 @@ impl ClassGraph {
         ensures live_in_range { (class : ℕ) → IsTrue (is_live self.now class) → class < CLASSES }
         ensures links_join_live { (class parent : ℕ) → IsTrue (has_link self.now.links class parent)
             → IsTrue (is_live self.now class) × IsTrue (is_live self.now parent) }
+        ensures few_parents { (class : ℕ) → length (parents_of self.now.links class) ≤ PARENTS }
         ensures no_cycle { HasNoCycle self.now.links }
         ensures antisymmetric { (a b : ℕ) → IsTrue (is_below self.now.links a b)
             → IsTrue (is_below self.now.links b a) → a ≡ b }
@@ -212,6 +228,17 @@ impl ClassGraph {
         }
         self.remove_link(class, parent);
         Ok(())
+    }
+
+    /// The class is as it was before a change: live with these parents alone, or not live.
+    ///
+    /// The graph that this leaves must be lawful, as it is where a change of this class alone is undone.
+    pub fn restore(&mut self, class: ClassNo, is_live: bool, parents: &[ClassNo])
+        requires few { length parents.now ≤ PARENTS }
+        requires lawful { LawfulGraph (restore_effect self.old class is_live parents.now) }
+        ensures { self.new ≡ restore_effect self.old class is_live parents.now }
+    {
+        self.rows[class.number() as usize] = Row::restored(is_live, parents);
     }
 
     /// The class is live from now on, with these parents.

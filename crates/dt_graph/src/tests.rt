@@ -1,7 +1,7 @@
 //! Rows of changes with their answers, and the calls that take memory, where there is enough.
 ghost use Rattle.std.specs.Prelude.{◌≡◌, ◌<◌};
 
-use crate::{ClassGraph, ClassNo, GraphFault, NoMemory, Steps};
+use crate::{ClassGraph, ClassNo, GraphFault, Steps};
 use std::marker::Brand;
 use std::sync::ledger::{Blank, Ledger};
 use std::test::Fail;
@@ -145,12 +145,6 @@ fn descendants_and_copies(rt: HostRuntime) -> Result<(), Fail> {
             "of {of}"
         );
     }
-    Ok(())
-}
-
-#[test]
-fn prints_the_want_of_memory(rt: HostRuntime) -> Result<(), Fail> {
-    assert_eq!(rt; format!(in rt.alloc(); "{NoMemory}")?.as_str(), "no memory");
     Ok(())
 }
 

@@ -1,7 +1,7 @@
 -- The most specific of the definitions that were seen so far.
-use Rattle.std.proofs.Common.{◌≡◌, ℕ, ◌+◌, ◌<◌, ◌≤◌, Bool, true, false, not, cond, List, [], ◌∷◌, ◌++◌, length, take, get_or, ◌⊎◌, inl, inr, ⊎_elim, refl, sym, ap, ◌∙◌, subst, arith, append-nil}
+use Rattle.std.proofs.Common.{◌≡◌, ℕ, ◌+◌, ◌<◌, ◌≤◌, Bool, true, false, cond, List, [], ◌∷◌, ◌++◌, length, take, get_or, inl, refl, sym, ◌∙◌, subst, append-nil}
 use Rattle.std.specs.Prelude.{Option, None, Some}
-use Rattle.std.specs.List.{Contains, filter, list_any}
+use Rattle.std.specs.List.{Contains, list_any}
 use Rattle.std.specs.Option.{MatchOption}
 use Rattle.std.proofs.lemmas.Bool.{or_from, both_ways, false_from_ne_true}
 use Rattle.std.proofs.lemmas.List.Elements.{filter_more}
@@ -22,12 +22,15 @@ is_beaten links found d = list_any (λ other. is_more_specific_at links other.cl
 abbrev pub IsBest : List Link → List Defined → Option Defined → Type 0
 IsBest links found best = MatchOption best (found ≡ []) (λ b. In found b × (is_beaten links found b ≡ false))
 
-is_beaten-push : (links : List Link) (found : List Defined) (d b : Defined) → is_beaten links found b ≡ false → is_more_specific_at links d.classes b.classes ≡ false → is_beaten links (found ++ d ∷ []) b ≡ false
+is_beaten-push : (links : List Link) (found : List Defined) (d b : Defined) → is_beaten links found b ≡ false →
+    is_more_specific_at links d.classes b.classes ≡ false → is_beaten links (found ++ d ∷ []) b ≡ false
 is_beaten-push links found d b e f =
     list_any-append _ found (d ∷ []) ∙ or_from _ _ e (or_from _ _ f refl)
 
 -- one more definition, which is more specific than the best so far
-IsBest-better : (links : List Link) → IsTransitive links → (found : List Defined) (best : Option Defined) (d : Defined) → IsBest links found best → is_better links d best ≡ true → IsBest links (found ++ d ∷ []) (Some d)
+IsBest-better : (links : List Link) → IsTransitive links →
+    (found : List Defined) (best : Option Defined) (d : Defined) → IsBest links found best →
+    is_better links d best ≡ true → IsBest links (found ++ d ∷ []) (Some d)
 IsBest-better links chains found None d h e =
     subst (λ xs. IsBest links (xs ++ d ∷ []) (Some d)) (sym h)
     (inl refl, or_from _ _ (is_more_specific-irreflexive links d.classes) refl)
@@ -41,22 +44,28 @@ IsBest-better links chains found (Some b) d h e = (
 )
 
 -- one more, which isn't
-IsBest-worse : (links : List Link) (found : List Defined) (best : Option Defined) (d : Defined) → IsBest links found best → is_better links d best ≡ false → IsBest links (found ++ d ∷ []) best
+IsBest-worse : (links : List Link) (found : List Defined) (best : Option Defined) (d : Defined) →
+    IsBest links found best → is_better links d best ≡ false → IsBest links (found ++ d ∷ []) best
 IsBest-worse links found None d h e = absurd (cc)
 IsBest-worse links found (Some b) d h e = (In-append found (d ∷ []) b h.0, is_beaten-push links found d b h.1 e)
 
 -- the best of all
-pub found_best : (links : List Link) (classes : List ℕ) (defined : List Defined) (i : ℕ) (best : Option Defined) → length defined ≤ i → IsBest links (applicable_among links classes (take i defined)) best → MatchOption best (applicable_among links classes defined ≡ []) (λ b. Contains (applicable_among links classes defined) b × (is_beaten links (applicable_among links classes defined) b ≡ false))
+pub found_best : (links : List Link) (classes : List ℕ) (defined : List Defined) (i : ℕ) (best : Option Defined) →
+    length defined ≤ i → IsBest links (applicable_among links classes (take i defined)) best →
+    MatchOption best (applicable_among links classes defined ≡ []) (λ b.
+    Contains (applicable_among links classes defined) b
+    × (is_beaten links (applicable_among links classes defined) b ≡ false))
 found_best links classes defined i None e h = rw take_all at h
 found_best links classes defined i (Some b) e h =
-    let h = subst (λ xs. IsBest links (applicable_among links classes xs) (Some b)) (take_all i defined e) h in
-    (Contains-from_In _ b h.0, h.1)
+    let all = subst (λ xs. IsBest links (applicable_among links classes xs) (Some b)) (take_all i defined e) h in
+    (Contains-from_In _ b all.0, all.1)
 
 module _ (links : List Link) (classes : List ℕ) (defined : List Defined) (i : ℕ) (best : Option Defined) (d : Defined)
     (within : i < length defined) (is : d ≡ get_or defined i d)
     (before : IsBest links (applicable_among links classes (take i defined)) best) where
   -- what one more definition adds to the applicable ones
-  one_more : (b : Bool) → are_below links classes d.classes ≡ b → applicable_among links classes (take (i + 1) defined) ≡ applicable_among links classes (take i defined) ++ cond b (d ∷ []) []
+  one_more : (b : Bool) → are_below links classes d.classes ≡ b →
+      applicable_among links classes (take (i + 1) defined) ≡ applicable_among links classes (take i defined) ++ cond b (d ∷ []) []
   one_more b e =
       let found = applicable_among links classes (take i defined) in
       let more = applicable_among links classes (take (i + 1) defined) in
@@ -64,11 +73,14 @@ module _ (links : List Link) (classes : List ℕ) (defined : List Defined) (i : 
       (subst (λ v. more ≡ found ++ cond (are_below links classes v.classes) (v ∷ []) []) (sym is)
       (filter_more (λ x. are_below links classes x.classes) defined i d within))
 
-  pub IsBest-takes : IsTransitive links → are_below links classes d.classes ≡ true → is_better links d best ≡ true → IsBest links (applicable_among links classes (take (i + 1) defined)) (Some d)
+  pub IsBest-takes : IsTransitive links → are_below links classes d.classes ≡ true → is_better links d best ≡ true →
+      IsBest links (applicable_among links classes (take (i + 1) defined)) (Some d)
   IsBest-takes chains e f = rw (one_more true e) (IsBest-better links chains _ best d before f)
 
-  pub IsBest-keeps : are_below links classes d.classes ≡ true → is_better links d best ≡ false → IsBest links (applicable_among links classes (take (i + 1) defined)) best
+  pub IsBest-keeps : are_below links classes d.classes ≡ true → is_better links d best ≡ false →
+      IsBest links (applicable_among links classes (take (i + 1) defined)) best
   IsBest-keeps e f = rw (one_more true e) (IsBest-worse links _ best d before f)
 
-  pub IsBest-passes : are_below links classes d.classes ≡ false → IsBest links (applicable_among links classes (take (i + 1) defined)) best
+  pub IsBest-passes : are_below links classes d.classes ≡ false →
+      IsBest links (applicable_among links classes (take (i + 1) defined)) best
   IsBest-passes e = rw (one_more false e, append-nil) before

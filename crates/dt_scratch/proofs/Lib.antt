@@ -1,4 +1,4 @@
-pub mod Answers
+pub mod AnswerAmong
 pub mod Best
 pub mod LiveNumbers
 pub mod Members

@@ -1,9 +1,8 @@
 -- Which selector and which classes of a query are live.
-use Rattle.std.proofs.Common.{◌≡◌, ◌==◌, ℕ, ◌+◌, ◌<◌, ◌≤◌, Bool, true, false, cond, List, [], ◌∷◌, length, drop, get_or, refl, sym, ap, ◌∙◌, subst, arith}
-use Rattle.std.specs.Prelude.{Option, None, Some}
-use Rattle.std.specs.List.{All, AllByRecursion, list_any}
+use Rattle.std.proofs.Common.{◌≡◌, ◌==◌, ℕ, ◌+◌, ◌<◌, false, List, [], ◌∷◌, drop, refl, subst}
+use Rattle.std.specs.Prelude.{Option, None}
+use Rattle.std.specs.List.{AllByRecursion}
 use Rattle.std.proofs.lemmas.Bool.{ne_eqb}
-use Rattle.std.proofs.lemmas.List.{at_drop_more, at_drop_all}
 use Rattle.std.proofs.lemmas.List.Elements.{All-weaker, recursion_from_All}
 use Rattle.std.proofs.lemmas.List.Folds.{list_any_none}
 use Rattle.dt_graph.specs.Graph.{Graph, is_live}
@@ -22,7 +21,8 @@ not_live graph number lawful far =
     (λ n h. ne_eqb n number (λ e. far (subst (λ v. v < CLASSES) e h))) graph.classes lawful.classes_in_range)
 
 -- a number out of range is no live selector
-pub no_selector : (selectors : List Selector) (number : ℕ) → LawfulSelectors selectors → (number < SELECTORS → ⊥) → arity_in selectors number ≡ None
+pub no_selector : (selectors : List Selector) (number : ℕ) → LawfulSelectors selectors → (number < SELECTORS → ⊥) →
+    arity_in selectors number ≡ None
 no_selector selectors number lawful far = not_found selectors (recursion_from_All LawfulSelector selectors lawful.in_range)
   where
     not_found : (rest : List Selector) → AllByRecursion LawfulSelector rest → arity_in rest number ≡ None

@@ -1,5 +1,5 @@
 -- Which elements stand in a list, and which of them a filter keeps.
-use Rattle.std.proofs.Common.{◌≡◌, ℕ, zero, suc, ◌<◌, Bool, true, false, ◌&&◌, ◌||◌, cond, List, [], ◌∷◌, ◌++◌, length, map, get_or, ◌⊎◌, inl, inr, ⊎_elim, refl, sym, ap, ◌∙◌, subst, arith}
+use Rattle.std.proofs.Common.{◌≡◌, ℕ, zero, suc, ◌<◌, Bool, true, false, ◌&&◌, ◌||◌, cond, List, [], ◌∷◌, ◌++◌, length, map, get_or, ◌⊎◌, inl, inr, refl, sym, ap, ◌∙◌, arith}
 use Rattle.std.specs.List.{Contains, filter, list_any}
 use Rattle.std.proofs.lemmas.Bool.{or_parts, or_from}
 use Rattle.std.proofs.lemmas.List.Elements.{Contains-append_right}
@@ -52,7 +52,8 @@ module _ {T : Type 0} (p : T → Bool) where
   In-filter (y ∷ ys) x (inr i) e =
       elim (p y) as (λ v. In (cond v (y ∷ filter p ys) (filter p ys)) x) [ true ↦ inr (In-filter ys x i e) | false ↦ In-filter ys x i e ]
 
-  In-filter-cons : (b : Bool) (y : T) (ys : List T) (x : T) → p y ≡ b → In (cond b (y ∷ filter p ys) (filter p ys)) x → (In (filter p ys) x → In ys x × (p x ≡ true)) → In (y ∷ ys) x × (p x ≡ true)
+  In-filter-cons : (b : Bool) (y : T) (ys : List T) (x : T) → p y ≡ b → In (cond b (y ∷ filter p ys) (filter p ys)) x →
+      (In (filter p ys) x → In ys x × (p x ≡ true)) → In (y ∷ ys) x × (p x ≡ true)
   In-filter-cons true y ys x e (inl q) f = (inl q, ap p q ∙ e)
   In-filter-cons true y ys x e (inr i) f = (inr (f i).0, (f i).1)
   In-filter-cons false y ys x e i f = (inr (f i).0, (f i).1)

@@ -28,7 +28,8 @@ is_more_specific-irreflexive links xs = rw (same_classes-refl xs) refl
 module _ (links : List Link)
     (antisymmetric : (a b : ℕ) → IsTrue (is_below links a b) → IsTrue (is_below links b a) → a ≡ b)
     (transitive : (a b c : ℕ) → IsTrue (is_below links a b) → IsTrue (is_below links b c) → IsTrue (is_below links a c)) where
-  are_below-trans : (xs ys zs : List ℕ) → are_below links xs ys ≡ true → are_below links ys zs ≡ true → are_below links xs zs ≡ true
+  are_below-trans : (xs ys zs : List ℕ) → are_below links xs ys ≡ true → are_below links ys zs ≡ true →
+      are_below links xs zs ≡ true
   are_below-trans [] [] zs e f = f
   are_below-trans [] (y ∷ ys) zs e f = absurd (false≢true e)
   are_below-trans (x ∷ xs) [] zs e f = absurd (false≢true e)
@@ -38,7 +39,8 @@ module _ (links : List Link)
       let h = and_parts _ _ f in
       and_from _ _ (transitive x y z g.0 h.0) (are_below-trans xs ys zs g.1 h.1)
 
-  are_below-antisym : (xs ys : List ℕ) → are_below links xs ys ≡ true → are_below links ys xs ≡ true → same_classes xs ys ≡ true
+  are_below-antisym : (xs ys : List ℕ) → are_below links xs ys ≡ true → are_below links ys xs ≡ true →
+      same_classes xs ys ≡ true
   are_below-antisym [] [] e f = refl
   are_below-antisym [] (y ∷ ys) e f = e
   are_below-antisym (x ∷ xs) [] e f = e

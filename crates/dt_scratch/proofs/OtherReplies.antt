@@ -1,16 +1,17 @@
 -- A definition changes no reply to a query that isn't below its classes.
-use Rattle.std.proofs.Common.{◌≡◌, ◌==◌, ℕ, Bool, true, false, ◌&&◌, cond, List, [], ◌∷◌, refl, sym, ap, ◌∙◌, subst}
+use Rattle.std.proofs.Common.{◌≡◌, ◌==◌, Bool, false, ◌&&◌, List, [], ◌∷◌, refl, ap, ◌∙◌}
 use Rattle.std.specs.List.{filter}
 use Rattle.std.proofs.lemmas.Bool.{and_parts, and_right}
-use Rattle.dt_definitions.specs.Program.{Definition, Program, arity_of, is_definition, is_definition_before, place_definition}
-use Rattle.dt_scratch.specs.Query.{Query, arity_of_query}
+use Rattle.dt_definitions.specs.Program.{Definition, arity_of, is_definition, is_definition_before, place_definition}
+use Rattle.dt_scratch.specs.Query.{arity_of_query}
 use Rattle.dt_scratch.specs.Resolve.{are_below, minimal, answer_by, first_dead, reply_by_classes, reply_by_arity}
 use Rattle.dt_scratch.specs.Laws.{OthersKeepTheirReply}
 use Rattle.dt_scratch.proofs.MoreSpecific.{same_from_classes}
 use Rattle.dt_scratch.proofs.Members.{by_cases}
 
 -- placing a definition that a filter passes over, with all others at its selector and classes, changes nothing there
-filter-place : (p : Definition → Bool) (definition : Definition) → ((d : Definition) → d.classes ≡ definition.classes → p d ≡ false) → (ds : List Definition) → filter p (place_definition definition ds) ≡ filter p ds
+filter-place : (p : Definition → Bool) (definition : Definition) → ((d : Definition) → d.classes ≡ definition.classes → p d ≡ false) →
+    (ds : List Definition) → filter p (place_definition definition ds) ≡ filter p ds
 filter-place p definition none [] = rw (none definition refl) refl
 filter-place p definition none (d ∷ ds) =
     by_cases (is_definition_before definition d)

@@ -1,6 +1,6 @@
 -- The reply where the selector and all classes are live.
-use Rattle.std.proofs.Common.{◌≡◌, ◌==◌, ℕ, Bool, true, ◌&&◌, List, refl, sym, ap, ◌∙◌, eq-eqb}
-use Rattle.std.specs.Prelude.{Option, None, Some}
+use Rattle.std.proofs.Common.{◌≡◌, ◌==◌, ℕ, Bool, List, refl, sym, ap, ◌∙◌, eq-eqb}
+use Rattle.std.specs.Prelude.{None, Some}
 use Rattle.std.specs.List.{filter}
 use Rattle.dt_definitions.specs.Program.{Definition, Program, arity_of, definitions_of}
 use Rattle.dt_graph.specs.Graph.{Graph}
@@ -8,10 +8,12 @@ use Rattle.dt_scratch.specs.declared.reply.Answer.{Answer}
 use Rattle.dt_scratch.specs.declared.reply.Reply.TheVariants.{Answered}
 use Rattle.dt_scratch.specs.Query.{Query, arity_of_query}
 use Rattle.dt_scratch.specs.Resolve.{are_below, applicable, minimal, answer_by, answer, first_dead, reply}
+use Rattle.dt_scratch.specs.Among.{answer_among}
 use Rattle.dt_scratch.proofs.Members.{filter-filter}
 
 -- what is known of the parts from which the answer was made
-pub record IsAnswered (p : Program) (q : Query) (graph : Graph) (selector arity : ℕ) (classes : List ℕ) (found : List Definition) (a : Answer) : Type 0 where
+pub record IsAnswered (p : Program) (q : Query) (graph : Graph) (selector arity : ℕ) (classes : List ℕ)
+    (found : List Definition) (a : Answer) : Type 0 where
   pub of_graph : graph ≡ p.graph
   pub of_selector : selector ≡ q.selector
   pub of_classes : classes ≡ q.classes
@@ -19,9 +21,10 @@ pub record IsAnswered (p : Program) (q : Query) (graph : Graph) (selector arity 
   pub fits : arity ≡ arity_of_query q
   pub all_live : first_dead p.graph 1 q.classes ≡ None
   pub all_found : found ≡ definitions_of p selector
-  pub answers : a ≡ answer_by (minimal graph.links (filter (λ d. are_below graph.links classes d.classes) found))
+  pub answers : a ≡ answer_among graph.links classes found
 
-pub answered_reply : (p : Program) (q : Query) (graph : Graph) (selector arity : ℕ) (classes : List ℕ) (found : List Definition) (a : Answer) →
+pub answered_reply : (p : Program) (q : Query) (graph : Graph) (selector arity : ℕ) (classes : List ℕ)
+    (found : List Definition) (a : Answer) →
     IsAnswered p q graph selector arity classes found a → Answered a ≡ reply p q
 answered_reply p q graph selector arity classes found a h =
     let below : Definition → Bool = λ d. are_below p.graph.links q.classes d.classes in
@@ -30,8 +33,8 @@ answered_reply p q graph selector arity classes found a h =
     ∙ filter-filter (λ d. d.selector == q.selector) below p.definitions in
     let is_answer : a ≡ answer p q =
     h.answers
-    ∙ ap (λ g. answer_by (minimal g.links (filter (λ d. are_below g.links classes d.classes) found))) h.of_graph
-    ∙ ap (λ cs. answer_by (minimal p.graph.links (filter (λ d. are_below p.graph.links cs d.classes) found))) h.of_classes
+    ∙ ap (λ g. answer_among g.links classes found) h.of_graph
+    ∙ ap (λ cs. answer_among p.graph.links cs found) h.of_classes
     ∙ ap (λ ds. answer_by (minimal p.graph.links ds)) same in
     let is_answered : reply p q ≡ Answered (answer p q) =
     rw (ap (arity_of p) (sym h.of_selector) ∙ sym h.live, h.all_live, eq-eqb arity (arity_of_query q) h.fits) refl in

@@ -1,5 +1,5 @@
 -- Lists under a strict order: the elements that have none less than them.
-use Rattle.std.proofs.Common.{◌≡◌, Bool, true, false, not, cond, List, [], ◌∷◌, length, ◌⊎◌, inl, inr, ⊎_elim, refl, sym, ap, ◌∙◌, subst, arith}
+use Rattle.std.proofs.Common.{◌≡◌, Bool, true, false, not, List, [], ◌∷◌, length, ◌⊎◌, inl, inr, ⊎_elim, refl, sym, ap, ◌∙◌, subst, arith}
 use Rattle.std.specs.List.{filter, list_any}
 use Rattle.std.proofs.lemmas.Bool.{both_ways, or_from, false_from_ne_true, true_from_ne_false, not_from_false}
 use Rattle.dt_scratch.proofs.Members.{by_cases, In, In-filter, In-from_filter, none_at, filter_agree_in, filter-weaker}
@@ -61,7 +61,8 @@ module _ {T : Type 0} (less : T → T → Bool) (irreflexive : (x : T) → less 
     unbeaten x e =
         not_from_false _ (false_from_ne_true _ (λ f. both_ways (none_less less xs x) (beaten x f) e))
 
-    one_left : (ys : List T) → length ys ≡ 1 → In (filter (none_less less xs) ys) c → filter (none_less less xs) ys ≡ c ∷ []
+    one_left : (ys : List T) → length ys ≡ 1 → In (filter (none_less less xs) ys) c →
+        filter (none_less less xs) ys ≡ c ∷ []
     one_left [] n i = absurd i
     one_left (y ∷ []) n i =
         let h = In-from_filter (none_less less xs) (y ∷ []) c i in

@@ -1,13 +1,11 @@
 -- A class that is below no other sees only its own definitions.
 use Rattle.std.proofs.Common.{◌≡◌, ◌==◌, ℕ, true, ◌&&◌, IsTrue, List, [], ◌∷◌, refl, sym, ap, ◌∙◌, subst}
 use Rattle.std.specs.Prelude.{All}
-use Rattle.std.specs.List.{filter}
 use Rattle.std.proofs.lemmas.Bool.{eq-eqb, ne_eqb, both_ways}
 use Rattle.std.proofs.lemmas.List.Elements.{filter_agree, All-head, All-tail}
 use Rattle.dt_graph.specs.Graph.{Link}
 use Rattle.dt_graph.specs.Below.{is_below}
 use Rattle.dt_definitions.specs.Program.{same_classes, is_definition}
-use Rattle.dt_scratch.specs.Query.{Query}
 use Rattle.dt_scratch.specs.Resolve.{are_below}
 use Rattle.dt_scratch.specs.Laws.{IsTop, TopSeesItself}
 use Rattle.dt_scratch.proofs.Members.{by_cases}
@@ -19,7 +17,8 @@ module _ (reflexive : (links : List Link) (a : ℕ) → IsTrue (is_below links a
       (λ e. e ∙ sym (eq-eqb b a (sym (top b e))))
       (λ e. e ∙ sym (ne_eqb b a (λ q. both_ways _ e (subst (λ v. is_below links a v ≡ true) (sym q) (reflexive links a)))))
 
-  are_below-top : (links : List Link) (xs ys : List ℕ) → All (IsTop links) xs → are_below links xs ys ≡ same_classes ys xs
+  are_below-top : (links : List Link) (xs ys : List ℕ) → All (IsTop links) xs →
+      are_below links xs ys ≡ same_classes ys xs
   are_below-top links [] [] tops = refl
   are_below-top links [] (y ∷ ys) tops = refl
   are_below-top links (x ∷ xs) [] tops = refl

@@ -1,9 +1,15 @@
 -- Look-up among the definitions that a program keeps for one selector.
-use Rattle.std.specs.Prelude.{◌≡◌, ℕ, Bool, true, ◌&&◌, not, List, Option, None, Some, filter}
+use Rattle.std.specs.Prelude.{◌≡◌, ℕ, Bool, true, ◌&&◌, not, List, Option, None, Some, count_by, filter}
 use Rattle.dt_graph.specs.Graph.{Link}
-use Rattle.dt_definitions.specs.Program.{same_classes}
+use Rattle.dt_definitions.specs.Program.{Definition, same_classes}
 use Rattle.dt_definitions.specs.declared.defined.Defined.{Defined}
-use Rattle.dt_scratch.specs.Resolve.{are_below}
+use Rattle.dt_scratch.specs.declared.reply.Answer.{Answer}
+use Rattle.dt_scratch.specs.Resolve.{are_below, minimal, answer_by}
+
+-- the answer to a query at these classes, whose selector has these definitions
+abbrev pub answer_among : List Link → List ℕ → List Definition → Answer
+answer_among links classes definitions =
+    answer_by (minimal links (filter (λ d. are_below links classes d.classes) definitions))
 
 -- those that are applicable to the classes
 abbrev pub applicable_among : List Link → List ℕ → List Defined → List Defined
@@ -15,10 +21,15 @@ is_more_specific_at links a b = not (same_classes a b) && are_below links a b
 
 -- more specific goes on: what is more specific than one is more specific than all that the one is
 abbrev pub IsTransitive : List Link → Type 0
-IsTransitive links = (a b c : List ℕ) → is_more_specific_at links a b ≡ true → is_more_specific_at links b c ≡ true →
-    is_more_specific_at links a c ≡ true
+IsTransitive links = (a b c : List ℕ) →
+    is_more_specific_at links a b ≡ true → is_more_specific_at links b c ≡ true → is_more_specific_at links a c ≡ true
 
 -- whether the definition is more specific than the best so far, if there is one
 abbrev pub is_better : List Link → Defined → Option Defined → Bool
 is_better links d None = true
 is_better links d (Some best) = is_more_specific_at links d.classes best.classes
+
+-- how many are applicable to the classes and don't lose to the best, the best itself among them
+abbrev pub count_unbeaten : List Link → List ℕ → Defined → List Defined → ℕ
+count_unbeaten links classes best defined =
+    count_by (λ d. are_below links classes d.classes && not (is_more_specific_at links best.classes d.classes)) defined

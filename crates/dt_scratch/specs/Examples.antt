@@ -1,10 +1,8 @@
 -- Worked examples of look-up from scratch.
-use Rattle.std.specs.Prelude.{◌≡◌, ℕ, true, false, List, [], ◌∷◌, refl}
+use Rattle.std.specs.Prelude.{◌≡◌, ℕ, List, [], ◌∷◌, refl}
 use Rattle.std.specs.declared.cmp.Ordering.TheVariants.{Less}
-use Rattle.dt_graph.specs.Graph.{Link, Graph}
 use Rattle.dt_graph.specs.GraphChange.{add_effect, unlink_effect}
-use Rattle.dt_graph.specs.Graph.{empty_graph}
-use Rattle.dt_selectors.specs.Selectors.{Selector}
+use Rattle.dt_graph.specs.Graph.{Graph, empty_graph}
 use Rattle.dt_definitions.specs.Program.{Definition, Program, place_definition}
 use Rattle.dt_scratch.specs.declared.reply.Answer.TheVariants.{Method, NotUnderstood, Ambiguous}
 use Rattle.dt_scratch.specs.declared.reply.Reply.TheVariants.{NoSelector, WrongArity, NoClass, Answered}
@@ -68,11 +66,13 @@ diamond_is_ambiguous : reply diamond (asks f D) ≡ Answered Ambiguous
 diamond_is_ambiguous = refl
 
 -- a definition at D settles it
-diamond_settled : reply (program_of diamond_graph (defined f (D ∷ []) 30 diamond_definitions)) (asks f D) ≡ Answered (Method 30)
+diamond_settled :
+    reply (program_of diamond_graph (defined f (D ∷ []) 30 diamond_definitions)) (asks f D) ≡ Answered (Method 30)
 diamond_settled = refl
 
 -- and so does the loss of one of the two links
-unlink_settles : reply (program_of (unlink_effect diamond_graph D C) diamond_definitions) (asks f D) ≡ Answered (Method 10)
+unlink_settles :
+    reply (program_of (unlink_effect diamond_graph D C) diamond_definitions) (asks f D) ≡ Answered (Method 10)
 unlink_settles = refl
 
 -- Two arguments: rocks and ships are things, and collide is defined at a thing and a ship, and at a ship and a thing.

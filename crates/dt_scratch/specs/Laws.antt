@@ -1,5 +1,5 @@
 -- What follows from the definitions of look-up from scratch.
-use Rattle.std.specs.Prelude.{◌≡◌, ◌==◌, ℕ, false, true, ◌&&◌, List, filter, All}
+use Rattle.std.specs.Prelude.{◌≡◌, ℕ, false, true, List, filter, All}
 use Rattle.dt_graph.specs.Graph.{Link}
 use Rattle.dt_graph.specs.Below.{is_below}
 use Rattle.dt_definitions.specs.Program.{Definition, Program, is_definition, place_definition}

@@ -1,5 +1,5 @@
 -- Look-up from scratch: all definitions are filtered anew for each query.
-use Rattle.std.specs.Prelude.{◌==◌, ℕ, ◌+◌, Bool, true, false, ◌&&◌, not, if◌then◌else◌, List, [], ◌∷◌, length, Option, None, Some, filter}
+use Rattle.std.specs.Prelude.{◌==◌, ℕ, ◌+◌, Bool, true, false, ◌&&◌, not, if◌then◌else◌, List, [], ◌∷◌, Option, None, Some, filter}
 use Rattle.std.specs.List.{list_any}
 use Rattle.dt_graph.specs.Graph.{Link, Graph, is_live}
 use Rattle.dt_graph.specs.Below.{is_below}

@@ -1,9 +1,8 @@
-ghost use Rattle.std.specs.Prelude.{◌≡◌, ◌==◌, ◌&&◌, ℕ, false, not, [], count_by, filter, MatchOption};
+ghost use Rattle.std.specs.Prelude.{◌≡◌, ◌==◌, ℕ, false, [], MatchOption};
 ghost use Rattle.std.specs.List.{Contains, list_any};
 ghost use Rattle.std.specs.Option.{option_copied};
 ghost use Rattle.dt_definitions.specs.DefinitionRows.{with_selector};
-ghost use Rattle.dt_scratch.specs.Resolve.{are_below, answer_by, minimal};
-ghost use Rattle.dt_scratch.specs.Among.{applicable_among, is_better, is_more_specific_at, IsTransitive};
+ghost use Rattle.dt_scratch.specs.Among.{answer_among, applicable_among, count_unbeaten, is_better, is_more_specific_at, IsTransitive};
 
 use crate::reply::Answer;
 use crate::specificity::{are_below, is_more_specific, law_of_specificity};
@@ -49,16 +48,13 @@ fn is_alone(
     classes: &[ClassNo],
     best: &Defined,
 ) -> bool
-    ensures { result ≡ (count_by
-        (λ d. are_below graph.now.links classes.now d.classes
-        && not (is_more_specific_at graph.now.links best.now.classes d.classes))
-        definitions.now == 1) }
+    ensures { result ≡ (count_unbeaten graph.now.links classes.now best.now definitions.now == 1) }
 {
-    let not_beaten = definitions.iter().filter(|d| {
+    let unbeaten = definitions.iter().filter(|d| {
         are_below(graph, classes, d.classes.classes())
             && !is_more_specific(graph, best.classes.classes(), d.classes.classes())
     });
-    not_beaten.count() == 1
+    unbeaten.count() == 1
 }
 
 /// The answer among the definitions of one selector to a query at these classes. It takes no memory, and goes
@@ -68,9 +64,8 @@ pub(crate) fn answer_among(
     definitions: &[Defined],
     classes: &[ClassNo],
 ) -> Answer
-    ensures { (selector : ℕ) → result ≡ answer_by (minimal graph.now.links
-        (filter (λ d. are_below graph.now.links classes.now d.classes)
-        (with_selector selector definitions.now))) }
+    ensures { (selector : ℕ) →
+        result ≡ answer_among graph.now.links classes.now (with_selector selector definitions.now) }
 {
     law_of_specificity(graph);
     match most_specific(graph, definitions, classes) {

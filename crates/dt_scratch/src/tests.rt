@@ -3,6 +3,7 @@ use crate::{Answer, Query, Reply, resolve};
 use dt_definitions::{Edit, Parents, Program, Tuple};
 use dt_graph::ClassNo;
 use dt_selectors::{Arity, BodyNo, SelNo};
+use std::cmp::max;
 use std::test::Fail;
 
 /// A line of a table: the edits, by numbers, and a query.
@@ -155,6 +156,9 @@ fn queries(rt: HostRuntime) -> Result<(), Fail> {
     for (place, class) in [(0, None), (1, Some(5)), (2, Some(65_535)), (3, None)] {
         assert_eq!(rt; query.class(place), class, "{place}");
     }
+    // More arguments come after fewer, whatever the classes.
+    let fewer = Query::new(9, &[6]).ok_or("no query")?;
+    assert_eq!(rt; max(query, fewer), query);
     assert!(rt; Query::new(9, &[]).is_none());
     assert!(rt; Query::new(9, &[0; 5]).is_none());
     Ok(())

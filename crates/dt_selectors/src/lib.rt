@@ -1,11 +1,13 @@
 //! Names numbered in the order of their first appearance, and selectors with the number of their arguments.
 #![tactic(auto)]
 
+mod law;
 mod limits;
 mod names;
 mod numbers;
 mod selectors;
 
+pub use law::changes_keep_law;
 pub use limits::{BODIES, NAMES, SELECTORS};
 pub use names::{NameFault, Names};
 pub use numbers::{Arity, BodyNo, SelNo};

@@ -1,4 +1,4 @@
-use Rattle.std.proofs.Common.{◌≡◌, ℕ, ◌+◌, length, take, cond, slice_index}
+use Rattle.std.proofs.Common.{◌≡◌, ℕ, ◌+◌, take, cond, slice_index}
 use Rattle.dt_graph.specs.Graph.{has_number}
 use Rattle.dt_definitions.proofs.definition_table.count_out.Given as goal
 

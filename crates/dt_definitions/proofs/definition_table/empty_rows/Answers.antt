@@ -1,4 +1,4 @@
-use Rattle.std.proofs.Common.{◌≡◌, length, rules, arith, sym}
+use Rattle.std.proofs.Common.{arith}
 use Rattle.std.proofs.lemmas.List.{length_push}
 use Rattle.dt_definitions.proofs.Rows.{none_push}
 use Rattle.dt_definitions.proofs.definition_table.empty_rows.Goals as goal

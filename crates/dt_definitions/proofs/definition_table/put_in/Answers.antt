@@ -1,10 +1,10 @@
-use Rattle.std.proofs.Common.{◌≡◌, ◌+◌, ◌<◌, ◌≤◌, Bool, length, filter, not, is_some, is_none, slice_index, eqb, sym, ap, ◌∙◌, arith}
+use Rattle.std.proofs.Common.{◌≡◌, not, is_some, is_none, sym, ap, ◌∙◌, arith}
 use Rattle.std.specs.List.{list_any}
 use Rattle.std.proofs.lemmas.Result.{on_ok_weaker, on_err_weaker, IfOk-weaker}
 use Rattle.dt_definitions.specs.Program.{Definition, is_definition}
-use Rattle.dt_definitions.specs.DefinitionRows.{definitions_from, rooms_of, body_in}
-use Rattle.dt_definitions.proofs.Rows.{of_row, place_row}
-use Rattle.dt_definitions.proofs.TableChanges.{same_row, room_grows, room_at, length_with, body_from_rows, some_body, none_body}
+use Rattle.dt_definitions.specs.DefinitionRows.{definitions_from, body_in}
+use Rattle.dt_definitions.proofs.Rows.{place_row}
+use Rattle.dt_definitions.proofs.TableChanges.{same_row, room_grows, room_in, body_from_rows, some_body, none_body}
 use Rattle.dt_definitions.proofs.definition_table.put_in.Goals as goal
 
 pub returns-clause-ok : goal.returns-clause-ok
@@ -38,14 +38,8 @@ pub returns-clause-room_stays : goal.returns-clause-room_stays
 returns-clause-room_stays c = λ s.
     room_grows c.args.rows.now.items c.number.result c.index_mut.result.now c.put.new.self c.index_mut.ensures.value c.put.ensures.room_stays s
 
-pub returns-clause-full : goal.returns-clause-full
-returns-clause-full c =
-    let rows = c.args.rows.now.items in
-    let row = c.index_mut.result.now in
-    let within : c.number.result < length rows = omega (arith, c.requires, c.number.ensures.in_range) in
-    let of = of_row rows 0 c.number.result c.args.selector row (omega (arith, c.number.ensures.value)) within c.index_mut.ensures.value in
-    let room = ap (slice_index (rooms_of rows)) (sym c.number.ensures.value) ∙ room_at rows c.number.result row within c.index_mut.ensures.value in
-    let many = ap length of in
-    on_err_weaker c.put.result
-    (λ h. rw room (omega (arith, h, many, length_with c.args.selector row.defined)))
-    c.put.ensures.full
+pub returns-clause-succeeds : goal.returns-clause-succeeds
+returns-clause-succeeds c = λ room.
+    c.put.ensures.succeeds
+    (room_in c.args.rows.now.items c.number.result c.args.selector c.args.classes c.index_mut.result.now (sym c.number.ensures.value)
+    (omega (arith, c.requires, c.number.ensures.in_range)) c.index_mut.ensures.value room)

@@ -1,7 +1,7 @@
-use Rattle.std.proofs.Common.{◌≡◌, ◌+◌, ◌<◌, length, is_some, sym, ap, ◌∙◌, arith}
+use Rattle.std.proofs.Common.{◌<◌, length, is_some, sym, ap, ◌∙◌, set, length-set, get_or-set_same, arith}
 use Rattle.dt_definitions.specs.DefinitionRows.{definitions_from}
 use Rattle.dt_definitions.proofs.Rows.{remove_row}
-use Rattle.dt_definitions.proofs.TableChanges.{room_same, body_from_rows, some_body}
+use Rattle.dt_definitions.proofs.TableChanges.{room_same, room_for, body_from_rows, some_body}
 use Rattle.dt_definitions.proofs.definition_table.remove_from.Goals as goal
 
 pub returns-clause-after : goal.returns-clause-after
@@ -20,3 +20,10 @@ returns-clause-was_there c =
 pub returns-clause-room_stays : goal.returns-clause-room_stays
 returns-clause-room_stays c =
     room_same c.args.rows.now.items c.number.result c.index_mut.result.now c.remove.new.self c.index_mut.ensures.value c.remove.ensures.room_stays
+
+pub returns-clause-room_left : goal.returns-clause-room_left
+returns-clause-room_left c = λ there.
+    let rows = c.args.rows.now.items in
+    let within : c.number.result < length rows = omega (arith, c.requires, c.number.ensures.in_range) in
+    room_for (set rows c.number.result c.remove.new.self) c.number.result c.args.selector c.args.classes.now c.remove.new.self (sym c.number.ensures.value)
+    (rw length-set within) (sym (get_or-set_same rows c.number.result c.remove.new.self c.remove.new.self within)) (c.remove.ensures.room_left there)

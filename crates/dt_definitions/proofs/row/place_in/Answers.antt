@@ -1,4 +1,4 @@
-use Rattle.std.proofs.Common.{◌≡◌, ◌≤◌, ◌<◌, ◌+◌, ◌-◌, ◌/◌, length, get_or, Bool, true, false, IsTrue, arith, sym, ap, ◌∙◌}
+use Rattle.std.proofs.Common.{◌≡◌, ◌+◌, ◌-◌, ◌/◌, get_or, true, false, arith, sym, ap, ◌∙◌}
 use Rattle.dt_definitions.specs.Program.{are_classes_before}
 use Rattle.dt_definitions.proofs.RowOrder.{first_place-within, first_place-above, first_place-at_most}
 use Rattle.dt_definitions.proofs.row.place_in.Goals as goal

@@ -1,4 +1,4 @@
-use Rattle.std.proofs.Common.{◌≡◌, ◌≤◌, length, rules, arith}
+use Rattle.std.proofs.Common.{◌≤◌, length}
 use Rattle.dt_definitions.specs.DefinitionRows.{first_place}
 use Rattle.dt_definitions.proofs.RowOrder.{found_from_read, absent_from_read, body_absent_end}
 use Rattle.dt_definitions.proofs.row.search.Goals as goal

@@ -1,6 +1,6 @@
 use Rattle.std.proofs.Common.{cond, sym, ap, ◌∙◌}
 use Rattle.dt_scratch.specs.declared.reply.Answer.TheVariants.{Method, Ambiguous}
-use Rattle.dt_scratch.proofs.Answers.{answered, not_understood}
+use Rattle.dt_scratch.proofs.AnswerAmong.{answered, not_understood}
 use Rattle.dt_scratch.proofs.among.answer_among.Goals as goal
 
 pub returns-in-None : goal.returns-in-None

@@ -1,4 +1,4 @@
-use Rattle.std.proofs.Common.{◌≡◌, ◌<◌, length, sym, ◌∙◌, arith}
+use Rattle.std.proofs.Common.{sym, ◌∙◌, arith}
 use Rattle.dt_definitions.proofs.TableChanges.{body_from_rows}
 use Rattle.dt_definitions.proofs.definition_table.DefinitionTable.body.Goals as goal
 

@@ -1,4 +1,4 @@
-use Rattle.std.proofs.Common.{◌≡◌, is_some, sym, ap, ◌∙◌}
+use Rattle.std.proofs.Common.{is_some, ap, ◌∙◌}
 use Rattle.dt_definitions.proofs.TableChanges.{some_body}
 use Rattle.dt_definitions.proofs.definition_table.DefinitionTable.has.Goals as goal
 

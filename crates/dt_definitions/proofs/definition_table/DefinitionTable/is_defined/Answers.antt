@@ -1,4 +1,4 @@
-use Rattle.std.proofs.Common.{◌≡◌, ◌==◌, eqb, not, length, sym, ap, ◌∙◌}
+use Rattle.std.proofs.Common.{eqb, not, length, sym, ap, ◌∙◌}
 use Rattle.dt_definitions.specs.Program.{Definition}
 use Rattle.dt_definitions.proofs.TableChanges.{filtered_any, length_with}
 use Rattle.dt_definitions.proofs.definition_table.DefinitionTable.is_defined.Goals as goal

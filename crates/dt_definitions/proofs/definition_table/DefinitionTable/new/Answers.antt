@@ -1,5 +1,4 @@
-use Rattle.std.proofs.Common.{◌≡◌, ◌<◌, ℕ, [], length, replicate, slice_index, sym, ap, refl, ◌∙◌, rules, arith}
-use Rattle.std.proofs.lemmas.List.{length-replicate, get_or-replicate}
+use Rattle.std.proofs.Common.{◌≡◌, replicate, rules}
 use Rattle.dt_graph.specs.declared.limits.TheConstants.{CLASSES}
 use Rattle.dt_definitions.proofs.Rows.{none_from_empty}
 use Rattle.dt_definitions.proofs.TableChanges.{kept_empty}

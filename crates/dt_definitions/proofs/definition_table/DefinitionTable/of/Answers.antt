@@ -1,4 +1,4 @@
-use Rattle.std.proofs.Common.{◌≡◌, ◌+◌, ◌<◌, length, sym, arith}
+use Rattle.std.proofs.Common.{arith}
 use Rattle.dt_definitions.proofs.Rows.{of_row}
 use Rattle.dt_definitions.proofs.definition_table.DefinitionTable.of.Goals as goal
 

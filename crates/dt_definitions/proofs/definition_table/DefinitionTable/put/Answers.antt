@@ -1,5 +1,4 @@
-use Rattle.std.proofs.Common.{◌≡◌, ◌<◌, ◌≤◌, ◌+◌, length, cond, slice_index, not, sym, ap, ◌∙◌, arith}
-use Rattle.dt_graph.specs.Graph.{has_number}
+use Rattle.std.proofs.Common.{◌≡◌, ◌≤◌, length, sym, ap, ◌∙◌}
 use Rattle.dt_definitions.specs.Program.{Definition}
 use Rattle.dt_definitions.specs.DefinitionRows.{definitions_from}
 use Rattle.dt_definitions.specs.declared.limits.TheConstants.{DEFINITIONS}

@@ -1,5 +1,3 @@
-use Rattle.std.proofs.Common.{◌≡◌, ℕ, Ok, Err, sym, ap, ◌∙◌, rules, arith}
-use Rattle.dt_definitions.specs.DefinitionRows.{Searched}
 use Rattle.dt_definitions.proofs.RowChanges.{body_of_found}
 use Rattle.dt_definitions.proofs.row.Row.body.Goals as goal
 

@@ -1,5 +1,4 @@
-use Rattle.std.proofs.Common.{◌≡◌, ℕ, Ok, Err, sym, ap, ◌∙◌, rules, arith}
-use Rattle.dt_definitions.specs.DefinitionRows.{Searched}
+use Rattle.std.proofs.Common.{arith}
 use Rattle.dt_definitions.proofs.RowChanges.{put_of_found, put_of_absent, place_of_absent, set_ascends, insert_ascends}
 use Rattle.dt_definitions.proofs.row.Row.put.Goals as goal
 

@@ -1,5 +1,3 @@
-use Rattle.std.proofs.Common.{◌≡◌, ℕ, Ok, Err, sym, ap, ◌∙◌, rules, arith}
-use Rattle.dt_definitions.specs.DefinitionRows.{Searched}
 use Rattle.dt_definitions.proofs.RowChanges.{remove_of_found, remove_absent, ascends_remove}
 use Rattle.dt_definitions.proofs.row.Row.remove.Goals as goal
 

@@ -1,0 +1,227 @@
+-- The step of an edit keeps a program lawful.
+use Rattle.std.proofs.Common.{◌≡◌, ℕ, ◌<◌, true, false, cond, not, List, [], ◌∷◌, length, filter, get_or, option_map, Option, Some, None, Ok, Err, Result, is_some, IsTrue, All, refl, sym, ap, subst, ◌∙◌, arith, eqb}
+use Rattle.std.specs.Option.{option_map_or}
+use Rattle.std.proofs.lemmas.Bool.{eq-eqb, eqb-true, ne_eqb, false≢true}
+use Rattle.std.proofs.lemmas.Bool.Decides.{nat_tests}
+use Rattle.std.proofs.lemmas.List.Folds.{list_any_at}
+use Rattle.std.proofs.lemmas.List.Elements.{All-nil, All-cons, All-head, All-tail, All-filter, All-weaker, filter_passes}
+use Rattle.dt_graph.specs.Refusal.{cause_if, ok_unless}
+use Rattle.dt_graph.specs.Graph.{Graph, empty_graph, has_number, is_live, place_number}
+use Rattle.dt_graph.specs.GraphChange.{add_cause, add_effect, drop_cause, drop_effect, link_cause, link_effect, unlink_cause, unlink_effect, first_unknown}
+use Rattle.dt_graph.specs.Lawful.{LawfulGraph}
+use Rattle.dt_graph.specs.declared.limits.TheConstants.{CLASSES}
+use Rattle.dt_selectors.specs.Selectors.{Selector, arity_in, has_selector, place_selector, without_selector}
+use Rattle.dt_selectors.specs.Lawful.{LawfulSelector, LawfulSelectors}
+use Rattle.dt_definitions.specs.Program.{Definition, Program, empty_program, arity_of, definitions_of, is_definition, is_definition_before, place_definition}
+use Rattle.dt_definitions.specs.Lawful.{LawfulDefinition, Lawful, IsInRange}
+use Rattle.dt_definitions.specs.Step.{why_of, is_named, is_defined, arity_differs, refusal, effect, step, with_graph, with_selectors, with_definitions, Applies}
+use Rattle.dt_definitions.specs.declared.edit.Edit.{Edit}
+use Rattle.dt_definitions.specs.declared.edit.Edit.TheVariants.{AddClass, DropClass, Link, Unlink, AddSelector, DropSelector, Define, Undefine}
+use Rattle.dt_definitions.specs.declared.why.Why.{Why}
+use Rattle.dt_definitions.specs.declared.why.Why.TheVariants as why
+use Rattle.dt_definitions.specs.declared.why.ApplyFault.{ApplyFault}
+use Rattle.dt_definitions.specs.declared.why.ApplyFault.TheVariants as apply_fault
+use Rattle.dt_definitions.proofs.DefinitionOrder.{place-ascends, filter-ascends}
+use Rattle.dt_definitions.proofs.Steps.{NoCause, no_cause, not_caused, none_mapped, few-place, few-filter, may_define}
+
+-- a class of a definition is named, and a definition's selector is defined
+named_at : (p : Program) (i k : ℕ) (d : Definition) (e : ℕ)
+    → i < length p.definitions → k < length (get_or p.definitions i d).classes
+    → IsTrue (is_named p (get_or (get_or p.definitions i d).classes k e))
+named_at p i k d e l m =
+    let classes = (get_or p.definitions i d).classes in
+    let class = get_or classes k e in
+    list_any_at (λ d. has_number d.classes class) p.definitions i d l
+    (list_any_at (λ n. eqb n class) classes k e m (eq-eqb class class refl))
+
+defined_at : (p : Program) (i : ℕ) (d : Definition)
+    → i < length p.definitions → IsTrue (is_defined p (get_or p.definitions i d).selector)
+defined_at p i d l =
+    let s = (get_or p.definitions i d).selector in
+    list_any_at (λ d. eqb d.selector s) p.definitions i d l (eq-eqb s s refl)
+
+-- another lawful graph, in which the classes that definitions name stay live
+graph_changed : (p : Program) (g : Graph) → Lawful p → LawfulGraph g
+    → ((class : ℕ) → IsTrue (is_named p class) → IsTrue (is_live p.graph class) → IsTrue (is_live g class))
+    → Lawful (with_graph p g)
+graph_changed p g l h stays = record {
+  graph = h;
+  selectors = l.selectors;
+  definitions_ascend = l.definitions_ascend;
+  definitions_lawful = λ i d m.
+      let old = l.definitions_lawful i d m in record {
+        arity_fits = old.arity_fits;
+        classes_live = λ k e n. stays _ (named_at p i k d e m n) (old.classes_live k e n);
+        body_in_range = old.body_in_range;
+      };
+  few_definitions = l.few_definitions;
+}
+
+-- other lawful selectors, among which those that are defined keep their arity
+selectors_changed : (p : Program) (ss : List Selector) → Lawful p → LawfulSelectors ss
+    → ((s : ℕ) → IsTrue (is_defined p s) → IsTrue (has_selector p.selectors s) → arity_in ss s ≡ arity_in p.selectors s)
+    → Lawful (with_selectors p ss)
+selectors_changed p ss l h stays = record {
+  graph = l.graph;
+  selectors = h;
+  definitions_ascend = l.definitions_ascend;
+  definitions_lawful = λ i d m.
+      let old = l.definitions_lawful i d m in record {
+        arity_fits = stays _ (defined_at p i d m) (ap is_some old.arity_fits) ∙ old.arity_fits;
+        classes_live = old.classes_live;
+        body_in_range = old.body_in_range;
+      };
+  few_definitions = l.few_definitions;
+}
+
+-- a lawful definition is one whatever the definitions beside it
+beside : (p : Program) (ds : List Definition) (d : Definition) → LawfulDefinition p d → LawfulDefinition (with_definitions p ds) d
+beside p ds d h = record { arity_fits = h.arity_fits; classes_live = h.classes_live; body_in_range = h.body_in_range }
+
+place-all : (P : Definition → Type 0) (d : Definition) (ds : List Definition) → P d → All P ds → All P (place_definition d ds)
+place-all P d [] p h = All-cons P d [] p h
+place-all P d (e ∷ ds) p h =
+    elim (is_definition_before d e) as (λ b. All P (cond b (d ∷ e ∷ ds) (cond (is_definition d.selector d.classes e) (d ∷ ds) (e ∷ place_definition d ds)))) [
+      | true ↦ All-cons P d (e ∷ ds) p h
+      | false ↦ elim (is_definition d.selector d.classes e) as (λ b. All P (cond b (d ∷ ds) (e ∷ place_definition d ds))) [
+        | true ↦ All-cons P d ds p (All-tail P e ds h)
+        | false ↦ All-cons P e (place_definition d ds) (All-head P e ds h) (place-all P d ds p (All-tail P e ds h))
+      ]
+    ]
+
+-- what stays live
+live-placed : (class n : ℕ) (ns : List ℕ) → IsTrue (has_number ns n) → IsTrue (has_number (place_number class ns) n)
+live-placed class n [] h = absurd (false≢true h)
+live-placed class n (m ∷ ns) h = let r = live-placed class n ns in grind arith
+
+live-filtered : (class n : ℕ) (ns : List ℕ) → (n ≡ class → ⊥) → IsTrue (has_number ns n)
+    → IsTrue (has_number (filter (λ c. not (eqb c class)) ns) n)
+live-filtered class n [] ne h = absurd (false≢true h)
+live-filtered class n (m ∷ ns) ne h = let r = live-filtered class n ns ne in grind (arith, nat_tests)
+
+-- what keeps its arity
+arity-placed : (new : Selector) (s : ℕ) (ss : List Selector) → (s ≡ new.number → ⊥)
+    → arity_in (place_selector new ss) s ≡ arity_in ss s
+arity-placed new s [] ne = rw (ne_eqb new.number s (λ e. ne (sym e))) refl
+arity-placed new s (t ∷ ss) ne = let r = arity-placed new s ss ne in grind (arith, nat_tests)
+
+arity-without : (old s : ℕ) (ss : List Selector) → (s ≡ old → ⊥) → arity_in (without_selector ss old) s ≡ arity_in ss s
+arity-without old s [] ne = refl
+arity-without old s (t ∷ ss) ne = let r = arity-without old s ss ne in grind (arith, nat_tests)
+
+-- classes of which none is unknown are live
+all_live : (g : Graph) (classes : List ℕ) → first_unknown g classes ≡ None → All (λ class. IsTrue (is_live g class)) classes
+all_live g [] h = All-nil (λ class. IsTrue (is_live g class))
+all_live g (c ∷ cs) h =
+    All-cons (λ class. IsTrue (is_live g class)) c cs (grind arith) (all_live g cs (grind arith))
+
+arity_known : (p : Program) (s : ℕ) (cs : List ℕ)
+    → has_selector p.selectors s ≡ true → arity_differs p s cs ≡ false → arity_of p s ≡ Some (length cs)
+arity_known p s cs h d =
+    elim (arity_of p s) as (λ o. is_some o ≡ true
+    → option_map_or (λ arity. not (eqb arity (length cs))) o false ≡ false → o ≡ Some (length cs)) [
+      | None ↦ λ h d. absurd (false≢true h)
+      | (Some a) ↦ λ h d. let e : eqb a (length cs) ≡ true = grind arith in ap Some (eqb-true a (length cs) e)
+    ] h d
+
+module _ (graph_add : (g : Graph) (class : ℕ) (parents : List ℕ) → LawfulGraph g → class < CLASSES → add_cause g class parents ≡ None → LawfulGraph (add_effect g class parents))
+    (graph_drop : (g : Graph) (class : ℕ) → LawfulGraph g → drop_cause g class ≡ None → LawfulGraph (drop_effect g class))
+    (graph_link : (g : Graph) (class parent : ℕ) → LawfulGraph g → link_cause g class parent ≡ None → LawfulGraph (link_effect g class parent))
+    (graph_unlink : (g : Graph) (class parent : ℕ) → LawfulGraph g → unlink_cause g class parent ≡ None → LawfulGraph (unlink_effect g class parent))
+    (selector_add : (ss : List Selector) (s : Selector) → LawfulSelectors ss → LawfulSelector s → LawfulSelectors (place_selector s ss))
+    (selector_drop : (ss : List Selector) (s : ℕ) → LawfulSelectors ss → LawfulSelectors (without_selector ss s)) where
+  effect-lawful : (p : Program) (edit : Edit) → Lawful p → IsInRange edit → None ≡ refusal p edit → Lawful (effect p edit)
+  effect-lawful p (AddClass class parents) l r h =
+      graph_changed p (add_effect p.graph class parents) l
+      (graph_add p.graph class parents l.graph r (none_mapped (add_cause p.graph class parents) (sym h)))
+      (λ c _ live. live-placed class c p.graph.classes live)
+  effect-lawful p (DropClass class) l r h =
+      let causes : List (Option Why) = option_map why_of (drop_cause p.graph class) ∷ cause_if (is_named p class) why.HasDefinitions ∷ [] in
+      let n : NoCause causes = no_cause causes h in
+      let unnamed = not_caused (is_named p class) why.HasDefinitions n.1.0 in
+      graph_changed p (drop_effect p.graph class) l
+      (graph_drop p.graph class l.graph (none_mapped (drop_cause p.graph class) n.0))
+      (λ c named live. live-filtered class c p.graph.classes
+      (λ e. false≢true (sym unnamed ∙ subst (λ k. is_named p k ≡ true) e named)) live)
+  effect-lawful p (Link class parent) l r h =
+      graph_changed p (link_effect p.graph class parent) l
+      (graph_link p.graph class parent l.graph (none_mapped (link_cause p.graph class parent) (sym h)))
+      (λ c _ live. live)
+  effect-lawful p (Unlink class parent) l r h =
+      graph_changed p (unlink_effect p.graph class parent) l
+      (graph_unlink p.graph class parent l.graph (none_mapped (unlink_cause p.graph class parent) (sym h)))
+      (λ c _ live. live)
+  effect-lawful p (AddSelector selector arity) l r h =
+      let new : Selector = record { number = selector; arity = arity } in
+      let absent = not_caused (has_selector p.selectors selector) why.SelectorExists (sym h) in
+      selectors_changed p (place_selector new p.selectors) l (selector_add p.selectors new l.selectors r)
+      (λ s _ known. arity-placed new s p.selectors
+      (λ e. false≢true (sym absent ∙ subst (λ k. has_selector p.selectors k ≡ true) e known)))
+  effect-lawful p (DropSelector selector) l r h =
+      let causes : List (Option Why) = cause_if (not (has_selector p.selectors selector)) why.SelectorUnknown ∷ cause_if (is_defined p selector) why.HasDefinitions ∷ [] in
+      let n : NoCause causes = no_cause causes h in
+      let undefined = not_caused (is_defined p selector) why.HasDefinitions n.1.0 in
+      selectors_changed p (without_selector p.selectors selector) l (selector_drop p.selectors selector l.selectors)
+      (λ s defined _. arity-without selector s p.selectors
+      (λ e. false≢true (sym undefined ∙ subst (λ k. is_defined p k ≡ true) e defined)))
+  effect-lawful p (Define selector classes body) l r h =
+      let d : Definition = record { selector = selector; classes = classes; body = body } in
+      let ds = place_definition d p.definitions in
+      let may = may_define p selector classes body h in
+      record {
+        graph = l.graph;
+        selectors = l.selectors;
+        definitions_ascend = place-ascends d p.definitions l.definitions_ascend;
+        definitions_lawful = place-all (LawfulDefinition (with_definitions p ds)) d p.definitions
+            (record { arity_fits = arity_known p selector classes may.known may.arity; classes_live = all_live p.graph classes may.live; body_in_range = r })
+            (λ i e m. beside p ds (get_or p.definitions i e) (l.definitions_lawful i e m));
+        few_definitions = few-place d p.definitions l.definitions_ascend l.few_definitions may.few;
+      }
+  effect-lawful p (Undefine selector classes) l r h =
+      let others = λ (d : Definition). not (is_definition selector classes d) in
+      let ds = filter others p.definitions in
+      record {
+        graph = l.graph;
+        selectors = l.selectors;
+        definitions_ascend = filter-ascends others p.definitions l.definitions_ascend;
+        definitions_lawful = All-filter others (LawfulDefinition (with_definitions p ds)) p.definitions
+            (λ i e m. beside p ds (get_or p.definitions i e) (l.definitions_lawful i e m));
+        few_definitions = omega (arith, few-filter others p.definitions, l.few_definitions);
+      }
+
+  pub step-lawful : (old : Program) (edit : Edit) (new : Program) → Lawful old → IsInRange edit → step old edit ≡ Ok new → Lawful new
+  step-lawful old edit new l r h =
+      elim (refusal old edit) as (λ o. refusal old edit ≡ o → ok_unless o (effect old edit) ≡ Ok new → Lawful new) [
+        | None ↦ λ none e. let same : effect old edit ≡ new = cc in subst Lawful same (effect-lawful old edit l r (sym none))
+        | (Some cause) ↦ λ _ e. absurd cc
+      ] refl h
+
+pub empty-lawful : LawfulGraph empty_graph → LawfulSelectors [] → Lawful empty_program
+empty-lawful g s = record {
+  graph = g;
+  selectors = s;
+  definitions_ascend = tt;
+  definitions_lawful = All-nil (LawfulDefinition empty_program);
+  few_definitions = omega arith;
+}
+
+-- whatever the answer of an edit, the program after it is lawful
+pub answer-lawful : ((old : Program) (edit : Edit) (new : Program) → Lawful old → IsInRange edit → step old edit ≡ Ok new → Lawful new)
+    → (old new : Program) (edit : Edit) (answer : Result (Unit {0}) ApplyFault)
+    → Lawful old → IsInRange edit → Applies old edit new answer → Lawful new
+answer-lawful law old new edit (Ok _) l r h = law old edit new l r h
+answer-lawful law old new edit (Err (apply_fault.Refused cause)) l r h = subst Lawful (sym h.1) l
+answer-lawful law old new edit (Err apply_fault.NoMemory) l r h = subst Lawful (sym h) l
+
+-- the definitions of one selector fit it
+pub definitions-fit : (p : Program) → Lawful p → (s : ℕ)
+    → All (λ d. (arity_of p s ≡ Some (length d.classes)) × All (λ class. IsTrue (is_live p.graph class)) d.classes) (definitions_of p s)
+definitions-fit p l s =
+    All-weaker (λ d. LawfulDefinition p d × IsTrue (eqb d.selector s))
+    (λ d. (arity_of p s ≡ Some (length d.classes)) × All (λ class. IsTrue (is_live p.graph class)) d.classes)
+    (λ d h. (subst (λ n. arity_of p n ≡ Some (length d.classes)) (eqb-true d.selector s h.1) h.0.arity_fits, h.0.classes_live))
+    (definitions_of p s)
+    (λ i d m. (
+      All-filter (λ d. eqb d.selector s) (LawfulDefinition p) p.definitions l.definitions_lawful i d m,
+      filter_passes (λ d. eqb d.selector s) p.definitions i d m,
+    ))

@@ -1,0 +1,49 @@
+-- Undoing all that was kept, and the steps of a batch that keep it.
+use Rattle.std.proofs.Common.{◌≡◌, ℕ, ◌+◌, ◌<◌, List, [], ◌∷◌, ◌++◌, length, drop, get_or, reverse, Ok, Err, Result, sym, ap, subst, ◌∙◌, arith}
+use Rattle.std.proofs.lemmas.List.{reverse-append, drop_more}
+use Rattle.dt_definitions.specs.Program.{Program}
+use Rattle.dt_definitions.specs.Lawful.{Lawful}
+use Rattle.dt_definitions.specs.DefinitionRows.{RoomStays}
+use Rattle.dt_definitions.specs.Step.{step, step_from, Applies, and_then, Refused}
+use Rattle.dt_definitions.specs.Undo.{restored, HasRoom, CanUndo}
+use Rattle.dt_definitions.specs.declared.edit.Edit.{Edit}
+use Rattle.dt_definitions.specs.declared.kept.Kept.{Kept}
+use Rattle.dt_definitions.specs.declared.kept.Kept.TheVariants as kept
+use Rattle.dt_definitions.specs.declared.why.ApplyFault.{ApplyFault}
+use Rattle.dt_definitions.specs.declared.why.ApplyFault.TheVariants as apply_fault
+
+pub reverse_push : (log : List Kept) (last : Kept) → reverse (log ++ last ∷ []) ≡ last ∷ reverse log
+reverse_push log last = reverse-append log (last ∷ [])
+
+-- more room is as good
+pub room_more : (p : Program) (rooms more : List ℕ) (last : Kept) → RoomStays rooms more
+    → HasRoom (record { all = p.definitions; rooms = rooms }) last → HasRoom (record { all = p.definitions; rooms = more }) last
+room_more p rooms more (kept.Class class live parents) s h = tt
+room_more p rooms more (kept.Selector selector arity) s h = tt
+room_more p rooms more (kept.Definition selector classes body) s h =
+    λ absent. let l = h absent in omega (arith, l, s selector)
+
+pub can_more : (log : List Kept) (p : Program) (rooms more : List ℕ) → RoomStays rooms more → CanUndo rooms p log → CanUndo more p log
+can_more [] p rooms more s h = tt
+can_more (last ∷ log) p rooms more s h =
+    (room_more p rooms more last s h.0, h.1, can_more log (restored p last) rooms more s h.2)
+
+-- after one more step
+pub can_step : (log : List Kept) (last : Kept) (old new : Program) (rooms more : List ℕ)
+    → RoomStays rooms more → Lawful old → restored new last ≡ old
+    → HasRoom (record { all = new.definitions; rooms = more }) last → CanUndo rooms old log → CanUndo more new (last ∷ log)
+can_step log last old new rooms more s l back room can =
+    (room, subst Lawful (sym back) l, subst (λ p. CanUndo more p log) (sym back) (can_more log old rooms more s can))
+
+-- the rest of a batch after an edit that was applied, and after one that was refused
+pub rest_applied : (edits : List Edit) (i : ℕ) (edit : Edit) (old new : Program) (whole : Result Program Refused)
+    → i < length edits → edit ≡ get_or edits i edit → step old edit ≡ Ok new
+    → step_from (i + 1) old (drop i edits) ≡ whole → step_from (i + 1 + 1) new (drop (i + 1) edits) ≡ whole
+rest_applied edits i edit old new whole l r h rest =
+    let d : drop i edits ≡ edit ∷ drop (i + 1) edits = drop_more edits i edit l ∙ ap (λ e. e ∷ drop (i + 1) edits) (sym r) in
+    let rest' = rw d at rest in
+    sym (ap (λ s. and_then s (i + 1) (λ q. step_from (i + 1 + 1) q (drop (i + 1) edits))) h) ∙ rest'
+
+pub unchanged : (old new : Program) (edit : Edit) (fault : ApplyFault) → Applies old edit new (Err fault) → new ≡ old
+unchanged old new edit (apply_fault.Refused why) h = h.1
+unchanged old new edit apply_fault.NoMemory h = h

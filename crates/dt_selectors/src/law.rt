@@ -1,0 +1,13 @@
+ghost use Rattle.std.specs.Prelude.{ℕ, ◌<◌, ◌≤◌, List, []};
+ghost use Rattle.dt_selectors.specs.Selectors.{Selector, place_selector, without_selector};
+ghost use Rattle.dt_selectors.specs.Lawful.{LawfulSelector, LawfulSelectors};
+
+/// No selectors are lawful, and lawful selectors stay so when one is placed among them or taken away. It does
+/// nothing: a caller whose reasoning needs this calls it.
+pub fn changes_keep_law()
+    ensures empty { LawfulSelectors [] }
+    ensures add { (selectors : List Selector) (selector : Selector) → LawfulSelectors selectors
+        → LawfulSelector selector → LawfulSelectors (place_selector selector selectors) }
+    ensures drop { (selectors : List Selector) (selector : ℕ) → LawfulSelectors selectors
+        → LawfulSelectors (without_selector selectors selector) }
+{}
