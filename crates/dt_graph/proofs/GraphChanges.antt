@@ -5,7 +5,7 @@ use Rattle.dt_graph.specs.GraphRows.{graph_of, place_numbers, LawfulRows}
 use Rattle.dt_graph.specs.Lawful.{LawfulGraph}
 use Rattle.dt_graph.specs.GraphChange.{add_cause, add_effect, drop_cause, drop_effect, link_cause, link_effect, unlink_effect}
 use Rattle.dt_graph.specs.declared.limits.TheConstants.{CLASSES}
-use Rattle.dt_graph.specs.declared.class_graph.Row.{Row}
+use Rattle.dt_graph.specs.declared.class_rows.Row.{Row}
 use Rattle.dt_graph.proofs.Rows.{links_from-at}
 use Rattle.dt_graph.proofs.RowChanges.{live_from-same, live_from-placed, live_from-dropped, links_from-placed, links_from-filled, links_from-dropped, links_from-removed}
 use Rattle.dt_graph.proofs.LawfulChanges.{joins_live, no_parents, may_be_added, add_keeps, drop_keeps, link_keeps, unlink_keeps}

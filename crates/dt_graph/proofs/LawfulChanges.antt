@@ -6,7 +6,7 @@ use Rattle.dt_graph.specs.Graph.{Link, Graph, empty_graph, has_number, is_live, 
 use Rattle.dt_graph.specs.Below.{Leads, HasNoCycle, is_below}
 use Rattle.dt_graph.specs.Lawful.{LawfulGraph}
 use Rattle.dt_graph.specs.GraphRows.{graph_of, LawfulRows}
-use Rattle.dt_graph.specs.declared.class_graph.Row.{Row}
+use Rattle.dt_graph.specs.declared.class_rows.Row.{Row}
 use Rattle.std.proofs.lemmas.List.{length-replicate}
 use Rattle.dt_graph.proofs.Rows.{graph_of-replicate}
 use Rattle.dt_graph.specs.Parents.{parents_of}

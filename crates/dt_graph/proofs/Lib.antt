@@ -8,8 +8,13 @@ pub mod Ascending
 pub mod LawfulChanges
 pub mod Repeated
 pub mod GraphChanges
-pub mod Marks
-pub mod Search
 pub mod Subclasses
-pub mod LiveRows
 pub mod Restored
+pub mod BelowChanges
+pub mod Members
+pub mod DescendantLists
+pub mod AscendingSets
+pub mod ClassBits
+pub mod Renewing
+pub mod FirstClass
+pub mod AncestryRows

@@ -8,10 +8,11 @@ use Rattle.dt_graph.specs.Lawful.{AscendingNumbers, LawfulGraph}
 use Rattle.dt_graph.specs.Parents.{parents_of}
 use Rattle.dt_graph.specs.GraphChange.{add_effect, drop_effect, link_effect, unlink_effect}
 use Rattle.dt_graph.specs.Restore.{restore_effect}
-use Rattle.dt_graph.specs.declared.class_graph.Row.{Row}
+use Rattle.dt_graph.specs.declared.class_rows.Row.{Row}
 use Rattle.dt_graph.proofs.RowChanges.{live_from-placed, links_from-filled}
 use Rattle.dt_graph.proofs.GraphChanges.{IsRowOf, dropped}
 use Rattle.dt_graph.proofs.LawfulChanges.{joins_live, no_parents}
+use Rattle.dt_graph.proofs.AscendingSets.{ascending_tail}
 
 -- ---- what the rows stand for
 
@@ -74,6 +75,10 @@ link_touches g class parent = rw (others_link class parent g.links) refl
 pub unlink_touches : (g : Graph) (class parent : ℕ) → drop_effect (unlink_effect g class parent) class ≡ drop_effect g class
 unlink_touches g class parent = rw (others_unlinked class parent g.links) refl
 
+pub restore_touches : (g : Graph) (class : ℕ) (live : Bool) (parents : List ℕ) → drop_effect (restore_effect g class live parents) class ≡ drop_effect g class
+restore_touches g class true parents = add_touches (drop_effect g class) class parents ∙ drop_touches g class
+restore_touches g class false parents = drop_touches g class
+
 -- ---- and the class comes back
 
 -- the number is below each of the list
@@ -85,14 +90,10 @@ below_less : (m n : ℕ) (numbers : List ℕ) → m < n → BelowAll n numbers �
 below_less m n [] l h = tt
 below_less m n (k ∷ numbers) l h = (omega (arith, h.0), below_less m n numbers l h.1)
 
-below_rest : (n : ℕ) (numbers : List ℕ) → AscendingNumbers (n ∷ numbers) → BelowAll n numbers
+pub below_rest : (n : ℕ) (numbers : List ℕ) → AscendingNumbers (n ∷ numbers) → BelowAll n numbers
 below_rest n [] h = tt
 below_rest n (m ∷ numbers) h =
     let l = ltb-true n m h.0 in (l, below_less n m numbers l (below_rest m numbers h.1))
-
-numbers_tail : (n : ℕ) (numbers : List ℕ) → AscendingNumbers (n ∷ numbers) → AscendingNumbers numbers
-numbers_tail n [] h = tt
-numbers_tail n (m ∷ numbers) h = h.1
 
 absent_below : (n : ℕ) (numbers : List ℕ) → BelowAll n numbers → filter (λ c. not (eqb c n)) numbers ≡ numbers
 absent_below n [] h = refl
@@ -103,7 +104,7 @@ place_below : (n : ℕ) (numbers : List ℕ) → BelowAll n numbers → place_nu
 place_below n [] h = refl
 place_below n (m ∷ numbers) h = rw (lt-ltb n m h.0) refl
 
-member_above : (n k : ℕ) (numbers : List ℕ) → BelowAll n numbers → IsTrue (has_number numbers k) → n < k
+pub member_above : (n k : ℕ) (numbers : List ℕ) → BelowAll n numbers → IsTrue (has_number numbers k) → n < k
 member_above n k [] h m = cc
 member_above n k (x ∷ numbers) h m = let r = member_above n k numbers h.1 in let l = h.0 in grind (arith, nat_tests)
 
@@ -119,7 +120,7 @@ number_back class (n ∷ numbers) u h =
           rw (absent_below class numbers b', place_below class numbers b', same) refl
       | false ↦ λ e.
           let m : IsTrue (has_number numbers class) = grind arith in
-          let r = number_back class numbers (numbers_tail n numbers u) m in
+          let r = number_back class numbers (ascending_tail n numbers u) m in
           let a = member_above n class numbers b m in
           grind (arith, nat_tests)
     ] refl
@@ -129,7 +130,7 @@ number_gone class [] h = refl
 number_gone class (n ∷ numbers) h = let r = number_gone class numbers in grind arith
 
 -- the link stands before each of the list
-abbrev LinkBelowAll : Link → List Link → Type 0
+abbrev pub LinkBelowAll : Link → List Link → Type 0
 LinkBelowAll l [] = Unit {0}
 LinkBelowAll l (m ∷ links) = IsTrue (is_link_before l m) × LinkBelowAll l links
 
@@ -140,11 +141,11 @@ link_below_less : (a b : Link) (links : List Link) → IsTrue (is_link_before a 
 link_below_less a b [] l h = tt
 link_below_less a b (c ∷ links) l h = (before_trans a b c l h.0, link_below_less a b links l h.1)
 
-link_below_rest : (l : Link) (links : List Link) → AscendingLinks (l ∷ links) → LinkBelowAll l links
+pub link_below_rest : (l : Link) (links : List Link) → AscendingLinks (l ∷ links) → LinkBelowAll l links
 link_below_rest l [] h = tt
 link_below_rest l (m ∷ links) h = (h.0, link_below_less l m links h.0 (link_below_rest m links h.1))
 
-links_tail : (l : Link) (links : List Link) → AscendingLinks (l ∷ links) → AscendingLinks links
+pub links_tail : (l : Link) (links : List Link) → AscendingLinks (l ∷ links) → AscendingLinks links
 links_tail l [] h = tt
 links_tail l (m ∷ links) h = h.1
 

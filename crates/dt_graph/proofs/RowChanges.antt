@@ -4,7 +4,7 @@ use Rattle.std.proofs.lemmas.Bool.Decides.{nat_tests}
 use Rattle.std.proofs.lemmas.List.Elements.{filter-append}
 use Rattle.dt_graph.specs.Graph.{Link, is_link, place_number, place_link, place_links}
 use Rattle.dt_graph.specs.GraphRows.{live_from, links_to, links_from, place_numbers}
-use Rattle.dt_graph.specs.declared.class_graph.Row.{Row}
+use Rattle.dt_graph.specs.declared.class_rows.Row.{Row}
 
 -- ---- the live classes
 

@@ -4,7 +4,7 @@ use Rattle.std.proofs.lemmas.Bool.{cond-false}
 use Rattle.dt_graph.specs.Graph.{Graph, empty_graph, has_number, is_live}
 use Rattle.dt_graph.specs.GraphRows.{live_from, links_to, links_from, graph_of}
 use Rattle.dt_graph.specs.Parents.{parents_of}
-use Rattle.dt_graph.specs.declared.class_graph.Row.{Row}
+use Rattle.dt_graph.specs.declared.class_rows.Row.{Row}
 use Rattle.dt_graph.proofs.ParentLists.{parents_of-append}
 
 -- a class before the first row isn't live

@@ -1,38 +1,97 @@
--- The lowest class that has a given one as a parent, found from the first row on.
-use Rattle.std.proofs.Common.{◌≡◌, ◌==◌, ℕ, ◌+◌, ◌<◌, ◌≤◌, true, false, cond, ◌||◌, List, [], ◌∷◌, ◌++◌, length, get_or, drop, Option, Some, None, find, option_map, refl, sym, ap, ◌∙◌}
-use Rattle.std.proofs.lemmas.Bool.{cond-true, cond-false}
-use Rattle.std.proofs.lemmas.List.{drop_more, drop_all}
-use Rattle.dt_graph.specs.Graph.{Link, has_number}
-use Rattle.dt_graph.specs.GraphRows.{links_to, links_from}
+-- The lowest class that has a given one as a parent: the first that has it among the classes below it.
+use Rattle.std.proofs.Common.{◌≡◌, ◌==◌, ℕ, ◌≤◌, Bool, true, false, ◌&&◌, IsTrue, List, [], ◌∷◌, Option, Some, None, find, refl, sym, ap, subst, ◌∙◌, ⊎_elim, eqb-true, ltb-true, eq-eqb, nat_lt, arith}
+use Rattle.std.proofs.lemmas.Bool.{or_cases, or_left, or_right, and_parts, and_from, and_right, false≢true, cases_Bool, cond-true, cond-false}
+use Rattle.std.specs.Option.{option_map}
+use Rattle.dt_graph.specs.Graph.{Link, has_number, is_link, has_link, is_link_before, AscendingLinks}
+use Rattle.dt_graph.specs.Lawful.{AscendingNumbers}
 use Rattle.dt_graph.specs.GraphChange.{lowest_subclass}
-use Rattle.dt_graph.specs.declared.class_graph.Row.{Row}
+use Rattle.dt_graph.proofs.Restored.{LinkBelowAll, link_below_rest, links_tail}
+use Rattle.dt_graph.proofs.AscendingSets.{same_truth, ascending_tail}
+use Rattle.dt_graph.proofs.Members.{first_is_lowest, has_first, has_later, is_later}
 
--- a class comes first if it has the parent, else the others
-first_or_later : (k : ℕ) (parents : List ℕ) (links : List Link) (class : ℕ) → lowest_subclass (links_to k parents ++ links) class ≡ cond (has_number parents class) (Some k) (lowest_subclass links class)
-first_or_later k [] links class = refl
-first_or_later k (p ∷ parents) links class =
-    elim (p == class) as (λ b. option_map (λ (l : Link). l.class) (cond b (Some (record { class = k; parent = p })) (find (λ (l : Link). l.parent == class) (links_to k parents ++ links))) ≡ cond (b || has_number parents class) (Some k) (lowest_subclass links class)) [
-      | true ↦ refl
-      | false ↦ first_or_later k parents links class
-    ]
+-- the lowest number that passes the test
+abbrev pub IsLowest : (ℕ → Bool) → Option ℕ → Type 0
+IsLowest test None = (n : ℕ) → test n ≡ false
+IsLowest test (Some lowest) = IsTrue (test lowest) × ((n : ℕ) → IsTrue (test n) → lowest ≤ n)
 
--- the rows from row i on
-abbrev pub lowest_from : List Row → ℕ → ℕ → Option ℕ
-lowest_from rows i class = lowest_subclass (links_from i (drop i rows)) class
+-- there is one answer
+one_lowest : (test : ℕ → Bool) (a b : Option ℕ) → IsLowest test a → IsLowest test b → a ≡ b
+one_lowest test None None first second = refl
+one_lowest test None (Some m) first second = absurd (false≢true (sym (first m) ∙ second.0))
+one_lowest test (Some n) None first second = absurd (false≢true (sym (second n) ∙ first.0))
+one_lowest test (Some n) (Some m) first second =
+    let same : n ≡ m = omega (arith, first.1 m second.0, second.1 n first.0) in ap (λ k. Some k) same
 
-lowest_from-row : (rows : List Row) (i class : ℕ) (row : Row) → i < length rows → row ≡ get_or rows i row → lowest_from rows i class ≡ cond (has_number row.parents.items class) (Some i) (lowest_from rows (i + 1) class)
-lowest_from-row rows i class row inside read =
-    ap (λ rs. lowest_subclass (links_from i rs) class) (drop_more rows i row inside ∙ ap (λ r. r ∷ drop (i + 1) rows) (sym read))
-    ∙ first_or_later i row.parents.items (links_from (i + 1) (drop (i + 1) rows)) class
+IsLowest-same : (test other : ℕ → Bool) → ((n : ℕ) → test n ≡ other n) → (lowest : Option ℕ) → IsLowest test lowest → IsLowest other lowest
+IsLowest-same test other same None known = λ n. sym (same n) ∙ known n
+IsLowest-same test other same (Some m) known = (sym (same m) ∙ known.0, λ n passes. known.1 n (same n ∙ passes))
 
-pub lowest_here : (rows : List Row) (i class : ℕ) (row : Row) (lowest : Option ℕ) → i < length rows → row ≡ get_or rows i row → lowest ≡ lowest_from rows i class → has_number row.parents.items class ≡ true → Some i ≡ lowest
-lowest_here rows i class row lowest inside read so_far has =
-    sym (so_far ∙ lowest_from-row rows i class row inside read ∙ cond-true (has_number row.parents.items class) (Some i) (lowest_from rows (i + 1) class) has)
+-- ---- the first of ascending numbers that passes a test
 
-pub lowest_later : (rows : List Row) (i class : ℕ) (row : Row) (lowest : Option ℕ) → i < length rows → row ≡ get_or rows i row → lowest ≡ lowest_from rows i class → has_number row.parents.items class ≡ false → lowest ≡ lowest_from rows (i + 1) class
-lowest_later rows i class row lowest inside read so_far lacks =
-    so_far ∙ lowest_from-row rows i class row inside read ∙ cond-false (has_number row.parents.items class) (Some i) (lowest_from rows (i + 1) class) lacks
+lowest_number : (test : ℕ → Bool) (numbers : List ℕ) → AscendingNumbers numbers → IsLowest (λ n. has_number numbers n && test n) (find test numbers)
+lowest_number test [] ascending = λ n. refl
+lowest_number test (x ∷ numbers) ascending = ⊎_elim
+    (λ passes.
+    let P : Option ℕ → Type 0 = IsLowest (λ n. has_number (x ∷ numbers) n && test n) in
+    subst P (sym (cond-true (test x) (Some x) (find test numbers) passes)) (
+      and_from (has_number (x ∷ numbers) x) (test x) (has_first x numbers) passes,
+      λ n both. ⊎_elim
+          (λ here. let same = eqb-true x n here in omega arith)
+          (λ later. let above = first_is_lowest x numbers ascending n later in omega arith)
+          (or_cases (x == n) (has_number numbers n) (and_parts (has_number (x ∷ numbers) n) (test n) both).0),
+    ))
+    (λ fails.
+    let P : Option ℕ → Type 0 = IsLowest (λ n. has_number (x ∷ numbers) n && test n) in
+    subst P (sym (cond-false (test x) (Some x) (find test numbers) fails))
+    (IsLowest-same (λ n. has_number numbers n && test n) (λ n. has_number (x ∷ numbers) n && test n) (λ n. same_truth (has_number numbers n && test n) (has_number (x ∷ numbers) n && test n)
+    (λ both. let parts = and_parts (has_number numbers n) (test n) both in and_from (has_number (x ∷ numbers) n) (test n) (has_later x numbers n parts.0) parts.1)
+    (λ both.
+    let parts = and_parts (has_number (x ∷ numbers) n) (test n) both in
+    and_from (has_number numbers n) (test n) (is_later x numbers n parts.0 (λ at. false≢true (sym fails ∙ (let Q : ℕ → Type 0 = λ m. IsTrue (test m) in subst Q (sym at) parts.1)))) parts.1))
+    (find test numbers) (lowest_number test numbers (ascending_tail x numbers ascending))))
+    (cases_Bool (test x))
 
-pub lowest_none : (rows : List Row) (i class : ℕ) (lowest : Option ℕ) → length rows ≤ i → lowest ≡ lowest_from rows i class → None ≡ lowest
-lowest_none rows i class lowest all so_far =
-    sym (so_far ∙ ap (λ rs. lowest_subclass (links_from i rs) class) (drop_all i rows all))
+-- ---- the class of the first link to a parent
+
+-- the links after a link are of its class or of a higher one
+link_after : (l : Link) (links : List Link) → LinkBelowAll l links → (a b : ℕ) → IsTrue (has_link links a b) → l.class ≤ a
+link_after l [] after a b linked = absurd (false≢true linked)
+link_after l (m ∷ links) after a b linked = ⊎_elim
+    (λ here.
+    let same = eqb-true m.class a (and_parts (m.class == a) (m.parent == b) here).0 in
+    ⊎_elim
+    (λ less. omega (arith, ltb-true l.class m.class less))
+    (λ more. omega (arith, eqb-true l.class m.class (and_parts (l.class == m.class) (nat_lt l.parent m.parent) more).0))
+    (or_cases (nat_lt l.class m.class) ((l.class == m.class) && nat_lt l.parent m.parent) after.0))
+    (λ later. link_after l links after.1 a b later)
+    (or_cases (is_link a b m) (has_link links a b) linked)
+
+lowest_linked : (links : List Link) (class : ℕ) → AscendingLinks links → IsLowest (λ n. has_link links n class) (lowest_subclass links class)
+lowest_linked [] class ascending = λ n. refl
+lowest_linked (l ∷ links) class ascending = ⊎_elim
+    (λ here.
+    let P : Option Link → Type 0 = λ found. IsLowest (λ n. has_link (l ∷ links) n class) (option_map (λ (link : Link). link.class) found) in
+    subst P (sym (cond-true (l.parent == class) (Some l) (find (λ (link : Link). link.parent == class) links) here)) (
+      or_left (is_link l.class class l) (has_link links l.class class) (and_from (l.class == l.class) (l.parent == class) (eq-eqb l.class l.class refl) here),
+      λ n linked. ⊎_elim
+          (λ own. let same = eqb-true l.class n (and_parts (l.class == n) (l.parent == class) own).0 in omega arith)
+          (λ later. link_after l links (link_below_rest l links ascending) n class later)
+          (or_cases (is_link n class l) (has_link links n class) linked),
+    ))
+    (λ other.
+    let P : Option Link → Type 0 = λ found. IsLowest (λ n. has_link (l ∷ links) n class) (option_map (λ (link : Link). link.class) found) in
+    subst P (sym (cond-false (l.parent == class) (Some l) (find (λ (link : Link). link.parent == class) links) other))
+    (IsLowest-same (λ n. has_link links n class) (λ n. has_link (l ∷ links) n class)
+    (λ n. rw (and_right (l.class == n) (l.parent == class) other) refl)
+    (lowest_subclass links class) (lowest_linked links class (links_tail l links ascending))))
+    (cases_Bool (l.parent == class))
+
+-- found among numbers that have all classes with the parent
+pub lowest_found : (links : List Link) (class : ℕ) (numbers : List ℕ) → AscendingLinks links → AscendingNumbers numbers → ((n : ℕ) → IsTrue (has_link links n class) → IsTrue (has_number numbers n)) → find (λ n. has_link links n class) numbers ≡ lowest_subclass links class
+lowest_found links class numbers ascending ascending' inside =
+    one_lowest (λ n. has_link links n class) (find (λ n. has_link links n class) numbers) (lowest_subclass links class)
+    (IsLowest-same (λ n. has_number numbers n && has_link links n class) (λ n. has_link links n class) (λ n. same_truth (has_number numbers n && has_link links n class) (has_link links n class)
+    (λ both. (and_parts (has_number numbers n) (has_link links n class) both).1)
+    (λ linked. and_from (has_number numbers n) (has_link links n class) (inside n linked) linked))
+    (find (λ n. has_link links n class) numbers) (lowest_number (λ n. has_link links n class) numbers ascending'))
+    (lowest_linked links class ascending)

@@ -1,4 +1,4 @@
--- Changes of a class graph: the causes of their refusals in order, their effects and their steps.
+-- Changes of a class graph: the causes of their refusals in order, and their effects.
 use Rattle.std.specs.Prelude.{◌==◌, ℕ, not, if◌then◌else◌, nat_lt, nat_le, List, [], ◌∷◌, length, Option, None, Some, find, filter}
 use Rattle.std.specs.Option.{option_map}
 use Rattle.dt_graph.specs.Refusal.{cause_if, first_cause}

@@ -3,7 +3,7 @@ use Rattle.std.specs.Prelude.{◌≡◌, ℕ, ◌+◌, if◌then◌else◌, List
 use Rattle.dt_graph.specs.Graph.{Link, Graph, place_number}
 use Rattle.dt_graph.specs.Lawful.{LawfulGraph}
 use Rattle.dt_graph.specs.declared.limits.TheConstants.{CLASSES}
-use Rattle.dt_graph.specs.declared.class_graph.Row.{Row}
+use Rattle.dt_graph.specs.declared.class_rows.Row.{Row}
 
 -- the live classes of the rows, whose first is that of the class k
 abbrev pub live_from : ℕ → List Row → List ℕ

@@ -10,8 +10,8 @@ AscendingNumbers [] = Unit {0}
 AscendingNumbers (a ∷ []) = Unit {0}
 AscendingNumbers (a ∷ b ∷ numbers) = IsTrue (nat_lt a b) × AscendingNumbers (b ∷ numbers)
 
--- a lawful class graph: no class or link stands twice, every link joins live classes, no class has more parents
--- than the limit, and no links lead from a class to itself
+-- a lawful class graph: classes and links ascend, so none stands twice; classes are in range; every link joins live
+-- classes; no class has more parents than the limit; and no links lead from a class to itself
 pub record LawfulGraph (graph : Graph) : Type 0 where
   pub classes_ascend : AscendingNumbers graph.classes
   pub classes_in_range : All (λ class. class < CLASSES) graph.classes

@@ -5,7 +5,9 @@ pub mod Parents
 pub mod Below
 pub mod Lawful
 pub mod Descendants
-pub mod Reached
+pub mod ClassSet
+pub mod Ancestry
+pub mod Renewal
 pub mod GraphChange
 pub mod Restore
 pub mod Examples

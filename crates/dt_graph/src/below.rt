@@ -2,38 +2,13 @@ ghost use Rattle.std.specs.Prelude.{◌≡◌, ℕ, ◌↔◌, IsTrue, List};
 ghost use Rattle.dt_graph.specs.Graph.{Link};
 ghost use Rattle.dt_graph.specs.Below.{IsBelow, is_below};
 
-use crate::class_graph::ClassGraph;
-use crate::class_no::ClassNo;
-use crate::reached::Reached;
-
-impl ClassGraph {
-    /// Whether `low` equals `high` or a list of links leads from `low` to `high`.
-    pub fn is_below(&self, low: ClassNo, high: ClassNo) -> bool
-        ensures test { result ≡ is_below self.now.links low high }
-        ensures relation { IsTrue result ↔ IsBelow self.now.links low high }
-    {
-        let mut reached = Reached::new();
-        reached.insert(low);
-        let mut next = 0;
-        while next < reached.len() {
-            let class = reached.at(next);
-            if class == high {
-                return true;
-            }
-            reached.insert_all(self.parents(class));
-            next += 1;
-        }
-        false
-    }
-}
-
 /// The test of below is true exactly where a list of links leads from the one to the other.
 pub fn below_test_agrees()
     ensures { (links : List Link) (low high : ℕ) → IsTrue (is_below links low high) ↔ IsBelow links low high }
 {}
 
 /// Below is reflexive and transitive, whatever the links. That no two classes are below each other is what
-/// [`ClassGraph::law`] says of the links of a graph.
+/// [`ClassGraph::law`](crate::ClassGraph::law) says of the links of a graph.
 pub fn below_is_an_order()
     ensures reflexive { (links : List Link) (class : ℕ) → IsTrue (is_below links class class) }
     ensures transitive { (links : List Link) (low middle high : ℕ) → IsTrue (is_below links low middle)

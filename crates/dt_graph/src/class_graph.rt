@@ -1,63 +1,28 @@
-ghost use Rattle.std.specs.Prelude.{◌≡◌, ℕ, ◌<◌, ◌≤◌, ◌↔◌, IsTrue, false, [], ◌++◌, if◌then◌else◌, IfOk, OnOk, OnErr, None, length};
+ghost use Rattle.std.specs.Prelude.{◌≡◌, ℕ, ◌<◌, ◌≤◌, ◌↔◌, IsTrue, ◌++◌, IfOk, OnOk, OnErr, None, length, find};
 ghost use Rattle.dt_graph.specs.Refusal.{ok_unless};
 ghost use Rattle.dt_graph.specs.Graph.{Graph, empty_graph, is_live, has_link, parent_count};
 ghost use Rattle.dt_graph.specs.Parents.{parents_of};
-ghost use Rattle.dt_graph.specs.Below.{HasNoCycle, is_below};
+ghost use Rattle.dt_graph.specs.Below.{HasNoCycle, IsBelow, is_below};
 ghost use Rattle.dt_graph.specs.Descendants.{descendants};
 ghost use Rattle.dt_graph.specs.Lawful.{LawfulGraph};
-ghost use Rattle.dt_graph.specs.GraphRows.{place_numbers};
 ghost use Rattle.dt_graph.specs.Restore.{restore_effect};
-ghost use Rattle.dt_graph.specs.declared.limits.TheConstants.{PARENTS};
+ghost use Rattle.dt_graph.specs.declared.limits.TheConstants.{CLASSES, PARENTS};
 ghost use Rattle.dt_graph.specs.GraphChange.{add_cause, add_effect, drop_cause, drop_effect, link_cause, link_effect, unlink_cause, unlink_effect, lowest_subclass};
 
+use crate::ancestry::Ancestry;
 use crate::class_no::ClassNo;
+use crate::class_rows::ClassRows;
 use crate::graph_fault::GraphFault;
-use crate::limits::CLASSES;
 use crate::no_memory::NoMemory;
-use crate::parents::{Parents, in_order, place, without};
-use arrayvec::ArrayVec;
+use crate::renewal::{join_all, renew};
 use std::alloc::Global;
 use std::marker::Model;
-
-/// What is kept of one class: whether it is live, and its parents in ascending order.
-#[derive(Clone, Debug, Drop)]
-struct Row {
-    is_live: bool,
-    parents: Parents,
-}
-
-impl Row {
-    /// The row of a class that isn't live.
-    fn empty() -> Row
-        ensures not_live { result.is_live ≡ false }
-        ensures no_parents { result.parents.items ≡ [] }
-    {
-        Row {
-            is_live: false,
-            parents: Parents::new(),
-        }
-    }
-
-    /// The row of a class that is live with these parents, or of one that isn't.
-    fn restored(is_live: bool, parents: &[ClassNo]) -> Row
-        requires { length parents.now ≤ PARENTS }
-        ensures live { result.is_live ≡ is_live }
-        ensures parents { result.parents.items ≡ (if is_live then place_numbers parents.now [] else []) }
-    {
-        if is_live {
-            return Row {
-                is_live,
-                parents: in_order(parents),
-            };
-        }
-        Row::empty()
-    }
-}
 
 /// The live classes and the links from classes to parents.
 #[derive(Debug, Drop)]
 pub struct ClassGraph {
-    rows: Vec<Row>,
+    rows: ClassRows,
+    ancestry: Ancestry,
 }
 
 impl Model for ClassGraph {
@@ -65,11 +30,11 @@ impl Model for ClassGraph {
 
     ghost Value = { Graph };
 
-    ghost use Rattle.dt_graph.specs.GraphRows.{graph_of, LawfulRows};
+    ghost use Rattle.dt_graph.specs.Renewal.{ShowsBelow};
 
-    ghost view = { λ g. graph_of g.rows.items };
+    ghost view = { λ g. g.rows };
 
-    ghost invariant = { λ g. LawfulRows g.rows.items };
+    ghost invariant = { λ g. ShowsBelow g.rows.links g.ancestry };
 }
 
 impl ClassGraph {
@@ -77,25 +42,23 @@ impl ClassGraph {
     pub fn new(alloc: Global) -> Result<ClassGraph, NoMemory>
         ensures { IfOk result (λ g. g ≡ empty_graph) }
     {
-        let mut rows = Vec::with_capacity(alloc, CLASSES as usize)?;
-        for _class in 0..CLASSES {
-            rows.push(Row::empty())?;
-        }
-        Ok(ClassGraph { rows })
+        let rows = ClassRows::new(alloc)?;
+        let ancestry = Ancestry::new(alloc)?;
+        Ok(ClassGraph { rows, ancestry })
     }
 
     /// Whether the class is live.
     pub fn is_live(&self, class: ClassNo) -> bool
         ensures { result ≡ is_live self.now class }
     {
-        self.rows[class.number() as usize].is_live
+        self.rows.is_live(class)
     }
 
     /// The parents of the class, in ascending order: none where it isn't live.
     pub fn parents(&self, class: ClassNo) -> &[ClassNo]
         ensures { result.now ≡ parents_of self.now.links class }
     {
-        self.rows[class.number() as usize].parents.as_slice()
+        self.rows.parents(class)
     }
 
     /// How many parents the class has.
@@ -116,12 +79,28 @@ impl ClassGraph {
     pub(crate) fn lowest_subclass(&self, class: ClassNo) -> Option<ClassNo>
         ensures { result ≡ lowest_subclass self.now.links class }
     {
-        for (number, row) in self.rows.iter().enumerate() {
-            if row.parents.as_slice().contains(&class) {
-                return Some(ClassNo::from_index(number));
-            }
-        }
-        None
+        let below = self.ancestry.below(class);
+        below.law();
+        self.rows.law();
+        self.first_with_parent(below.classes().as_slice(), class)
+    }
+
+    /// The first of the classes that has the parent.
+    fn first_with_parent(&self, classes: &[ClassNo], parent: ClassNo) -> Option<ClassNo>
+        ensures { result ≡ find (λ class. has_link self.now.links class parent) classes.now }
+    {
+        classes
+            .iter()
+            .copied()
+            .find(|class| self.has_link(*class, parent))
+    }
+
+    /// Whether `low` equals `high` or a list of links leads from `low` to `high`.
+    pub fn is_below(&self, low: ClassNo, high: ClassNo) -> bool
+        ensures test { result ≡ is_below self.now.links low high }
+        ensures relation { IsTrue result ↔ IsBelow self.now.links low high }
+    {
+        self.ancestry.holds(low, high)
     }
 
     /// Appends the live classes at or below `class`, in ascending order. `class` itself need not be live. Where
@@ -130,24 +109,35 @@ impl ClassGraph {
         ensures ok { OnOk result (out.new.items ≡ out.old.items ++ descendants self.now class) }
         ensures err { OnErr result (out.new.items ≡ out.old.items) }
     {
-        let before = out.len();
-        for (number, row) in self.rows.iter().enumerate() {
-            let low = ClassNo::from_index(number);
-            if row.is_live && self.is_below(low, class) && out.push(low).is_err() {
-                out.truncate(before);
-                return Err(NoMemory);
-            }
+        self.rows.law();
+        if !self.is_live(class) {
+            return Ok(());
         }
-        Ok(())
+        let below = self.ancestry.below(class);
+        below.law();
+        below.push_into(out)
+    }
+
+    /// How many live classes are at or below `class`: none where `class` itself isn't live.
+    pub fn below_count(&self, class: ClassNo) -> usize
+        ensures { result ≡ length (descendants self.now class) }
+    {
+        self.rows.law();
+        if !self.is_live(class) {
+            return 0;
+        }
+        let below = self.ancestry.below(class);
+        below.law();
+        below.len()
     }
 
     /// An equal graph.
     pub fn copy(&self) -> Result<ClassGraph, NoMemory>
         ensures { IfOk result (λ g. g ≡ self.now) }
     {
-        Ok(ClassGraph {
-            rows: self.rows.clone()?,
-        })
+        let rows = self.rows.copy()?;
+        let ancestry = self.ancestry.copy()?;
+        Ok(ClassGraph { rows, ancestry })
     }
 
     /// What holds of every class graph. It does nothing: a caller whose reasoning needs this calls it.
@@ -161,7 +151,7 @@ impl ClassGraph {
         ensures antisymmetric { (a b : ℕ) → IsTrue (is_below self.now.links a b)
             → IsTrue (is_below self.now.links b a) → a ≡ b }
     {
-        let _ = &self.rows;
+        self.rows.law();
     }
 
     /// Adds a class with one link to each of its parents.
@@ -238,7 +228,9 @@ impl ClassGraph {
         requires lawful { LawfulGraph (restore_effect self.old class is_live parents.now) }
         ensures { self.new ≡ restore_effect self.old class is_live parents.now }
     {
-        self.rows[class.number() as usize] = Row::restored(is_live, parents);
+        self.rows.law();
+        self.rows.restore(class, is_live, parents);
+        renew(&self.rows, &mut self.ancestry, class);
     }
 
     /// The class is live from now on, with these parents.
@@ -246,10 +238,8 @@ impl ClassGraph {
         requires { add_cause self.old class parents.now ≡ None }
         ensures { self.new ≡ add_effect self.old class parents.now }
     {
-        self.rows[class.number() as usize] = Row {
-            is_live: true,
-            parents: in_order(parents),
-        };
+        self.rows.insert(class, parents);
+        join_all(&mut self.ancestry, class, parents);
     }
 
     /// The class isn't live from now on, and has no parents.
@@ -257,7 +247,9 @@ impl ClassGraph {
         requires { drop_cause self.old class ≡ None }
         ensures { self.new ≡ drop_effect self.old class }
     {
-        self.rows[class.number() as usize] = Row::empty();
+        self.rows.law();
+        self.rows.remove(class);
+        renew(&self.rows, &mut self.ancestry, class);
     }
 
     /// The class has one parent more.
@@ -265,15 +257,16 @@ impl ClassGraph {
         requires { link_cause self.old class parent ≡ None }
         ensures { self.new ≡ link_effect self.old class parent }
     {
-        let row = &mut self.rows[class.number() as usize];
-        place(&mut row.parents, parent);
+        self.rows.insert_link(class, parent);
+        self.ancestry.join(class, parent);
     }
 
     /// The class has one parent less.
     fn remove_link(&mut self, class: ClassNo, parent: ClassNo)
         ensures { self.new ≡ unlink_effect self.old class parent }
     {
-        let row = &mut self.rows[class.number() as usize];
-        row.parents = without(&row.parents, parent);
+        self.rows.law();
+        self.rows.remove_link(class, parent);
+        renew(&self.rows, &mut self.ancestry, class);
     }
 }

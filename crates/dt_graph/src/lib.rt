@@ -2,16 +2,19 @@
 //! "below" that the links make. Also the two types that all crates share: [`NoMemory`] and [`Steps`].
 #![tactic(auto)]
 
+mod ancestry;
 mod below;
 mod causes;
 mod class_graph;
 mod class_no;
+mod class_rows;
+mod class_set;
 mod graph_fault;
 mod law;
 mod limits;
 mod no_memory;
 mod parents;
-mod reached;
+mod renewal;
 mod steps;
 
 pub use below::{below_is_an_order, below_test_agrees};
@@ -23,5 +26,7 @@ pub use limits::{CLASSES, PARENTS};
 pub use no_memory::NoMemory;
 pub use steps::Steps;
 
+#[cfg(test)]
+mod search_tests;
 #[cfg(test)]
 mod tests;

@@ -1,41 +1,14 @@
-use Rattle.std.proofs.Common.{◌∙◌, ◌<◌, length, ap, arith}
-use Rattle.dt_graph.specs.Graph.{place_number}
-use Rattle.dt_graph.specs.declared.class_graph.Row.{Row}
-use Rattle.dt_graph.proofs.ParentLists.{parent_count_listed}
-use Rattle.dt_graph.proofs.Rows.{parents_of-read}
-use Rattle.dt_graph.proofs.LawfulChanges.{may_be_linked}
-use Rattle.dt_graph.proofs.GraphChanges.{IsRowOf, linked, linked_lawful}
+use Rattle.std.proofs.Common.{◌<◌, sym, subst, arith}
+use Rattle.dt_graph.specs.Graph.{Graph}
+use Rattle.dt_graph.specs.Renewal.{ShowsBelow}
+use Rattle.dt_graph.specs.declared.limits.TheConstants.{CLASSES}
+use Rattle.dt_graph.proofs.Renewing.{joined}
 use Rattle.dt_graph.proofs.class_graph.ClassGraph.insert_link.Goals as goal
 
-pub place-requires : goal.place-requires
-place-requires c =
-    let inside : c.number.result < length c.self.inside.rows.items = omega (arith, c.self.invariant.count, c.number.ensures.in_range) in
-    let listed = parents_of-read c.args.self.now c.self.inside.rows.items c.index_mut-row.result.now c.number.result c.args.class c.self.view_is c.number.ensures.value inside c.index_mut-row.ensures.value in
-    let may = may_be_linked c.args.self.now c.args.class c.args.parent c.requires in
-    omega (arith, ap length listed, parent_count_listed c.args.self.now.links c.args.class, may.room)
-
-at : (c : goal.After-self-1) → IsRowOf c.args.self.now c.self.inside.rows.items c.number.result c.args.class
-at c = record {
-  shown = c.self.view_is;
-  same = c.number.ensures.value;
-  inside = omega (arith, c.self.invariant.count, c.number.ensures.in_range);
-}
-
-after : goal.After-self-1 → Row
-after c = record { is_live = c.index_mut-row.result.now.is_live; parents = c.place.new.parents }
-
 pub invariant_of-self : goal.invariant_of-self
-unfolding after
 invariant_of-self c =
-    let read = c.index_mut-row.ensures.value in
-    linked_lawful c.args.self.now c.self.inside.rows.items c.number.result c.args.class c.args.parent (after c) c.index_mut-row.result.now (at c) c.self.invariant c.requires
-    (ap (λ (r : Row). r.is_live) read)
-    (c.place.ensures ∙ ap (λ (r : Row). place_number c.args.parent r.parents.items) read)
-
-pub returns : goal.returns
-unfolding after
-returns c =
-    let read = c.index_mut-row.ensures.value in
-    linked c.args.self.now c.self.inside.rows.items c.number.result c.args.class c.args.parent (after c) c.index_mut-row.result.now (at c)
-    (ap (λ (r : Row). r.is_live) read)
-    (c.place.ensures ∙ ap (λ (r : Row). place_number c.args.parent r.parents.items) read)
+    let class_in : c.args.class < CLASSES = omega arith in
+    let parent_in : c.args.parent < CLASSES = omega arith in
+    let P : Graph → Type 0 = λ g. ShowsBelow g.links c.join.new.self in
+    subst P (sym c.insert_link.ensures)
+    (joined c.self.inside.rows.links c.args.class c.args.parent c.self.inside.ancestry c.join.new.self class_in parent_in c.join.ensures c.self.invariant)

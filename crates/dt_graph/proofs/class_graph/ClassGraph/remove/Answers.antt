@@ -1,18 +1,10 @@
-use Rattle.std.proofs.Common.{arith}
-use Rattle.dt_graph.proofs.GraphChanges.{IsRowOf, dropped, dropped_lawful}
+use Rattle.std.proofs.Common.{ap, ◌∙◌}
+use Rattle.dt_graph.specs.GraphChange.{drop_effect}
+use Rattle.dt_graph.proofs.Restored.{drop_touches}
 use Rattle.dt_graph.proofs.class_graph.ClassGraph.remove.Goals as goal
-
-at : (c : goal.After-self-1) → IsRowOf c.args.self.now c.self.inside.rows.items c.number.result c.args.class
-at c = record {
-  shown = c.self.view_is;
-  same = c.number.ensures.value;
-  inside = omega (arith, c.self.invariant.count, c.number.ensures.in_range);
-}
 
 pub invariant_of-self : goal.invariant_of-self
 invariant_of-self c =
-    dropped_lawful c.args.self.now c.self.inside.rows.items c.number.result c.args.class c.empty.result (at c) c.self.invariant c.requires c.empty.ensures.not_live c.empty.ensures.no_parents
-
-pub returns : goal.returns
-returns c =
-    dropped c.args.self.now c.self.inside.rows.items c.number.result c.args.class c.empty.result (at c) c.empty.ensures.not_live c.empty.ensures.no_parents
+    c.renew.ensures c.self.inside.rows c.law.ensures.lawful
+    (ap (λ g. drop_effect g c.args.class) c.remove.ensures ∙ drop_touches c.self.inside.rows c.args.class)
+    c.self.invariant

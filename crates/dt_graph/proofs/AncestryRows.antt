@@ -1,0 +1,93 @@
+-- Rows of class sets of which those in some places are changed, and what that makes of the two lists of an ancestry.
+use Rattle.std.proofs.Common.{◌≡◌, ◌==◌, ℕ, ◌+◌, ◌<◌, Bool, true, false, cond, not, ◌&&◌, ◌||◌, nat_lt, List, [], length, get_or, set, None, Some, refl, sym, ap, ◌∙◌, arith, lt-ltb, inl, inr}
+use Rattle.std.proofs.lemmas.Bool.{cases_eq, cases_lt, cond-true, cond-false, and_from, and_left, and_right, le-ltb}
+use Rattle.std.proofs.lemmas.List.{get_or_default, get_or-set_same, get_or-set_other, length-set}
+use Rattle.dt_graph.specs.Graph.{has_number}
+use Rattle.dt_graph.specs.Lawful.{AscendingNumbers}
+use Rattle.dt_graph.specs.ClassSet.{first_from}
+use Rattle.dt_graph.specs.Ancestry.{row_has}
+use Rattle.dt_graph.proofs.AscendingSets.{IsFirstFrom, first_some, first_none, and_true}
+
+-- the rows in the places below the bound are changed as `change` says of each number's bit
+pub record IsChangedTo (change : Bool → ℕ → Bool) (old new : List (List ℕ)) (places : List ℕ) (least : ℕ) : Type 0 where
+  pub count : length new ≡ length old
+  pub each : (k n : ℕ) → row_has new k n ≡ cond (has_number places k && nat_lt k least) (change (row_has old k n) n) (row_has old k n)
+
+pub IsChangedTo-none : (change : Bool → ℕ → Bool) (rows : List (List ℕ)) (places : List ℕ) → IsChangedTo change rows rows places 0
+IsChangedTo-none change rows places = record {
+  count = refl;
+  each = λ k n. sym (cond-false (has_number places k && nat_lt k 0) (change (row_has rows k n) n) (row_has rows k n) (and_right (has_number places k) (nat_lt k 0) (le-ltb k 0 (omega arith))));
+}
+
+-- a place before the next one is done exactly where it was done already
+done_already : (places : List ℕ) (least place k : ℕ) → IsFirstFrom places least place → (k ≡ place → ⊥)
+    → (has_number places k && nat_lt k least) ≡ (has_number places k && nat_lt k (place + 1))
+done_already places least place k first other =
+    let more = first.more in
+    elim (cases_lt k least) [
+      | inl before ↦
+          ap (λ t. has_number places k && t) (lt-ltb k least before ∙ sym (lt-ltb k (place + 1) (omega arith)))
+      | inr after ↦
+          and_right (has_number places k) (nat_lt k least) (le-ltb k least after)
+          ∙ sym (elim (cases_lt k place) [
+            | inl between ↦ and_left (has_number places k) (nat_lt k (place + 1)) (first.none_between k after between)
+            | inr past ↦ and_right (has_number places k) (nat_lt k (place + 1)) (le-ltb k (place + 1) (omega arith))
+          ])
+    ]
+
+pub IsChangedTo-more : (change : Bool → ℕ → Bool) (old rows : List (List ℕ)) (places : List ℕ) (least place next : ℕ) (default changed : List ℕ)
+    → AscendingNumbers places → first_from least places ≡ Some place → next ≡ place → place < length rows
+    → ((n : ℕ) → has_number changed n ≡ change (has_number (get_or rows place default) n) n) → IsChangedTo change old rows places least
+    → IsChangedTo change old (set rows place changed) places (next + 1)
+IsChangedTo-more change old rows places least place next default changed ascending found same inside says so_far =
+    let first = first_some places least place ascending found in record {
+      count = length-set rows place changed ∙ so_far.count;
+      each = λ k n. elim (cases_eq k place) [
+        | inl here ↦
+            let before : row_has rows k n ≡ row_has old k n =
+            so_far.each k n
+            ∙ cond-false (has_number places k && nat_lt k least) (change (row_has old k n) n) (row_has old k n)
+            (and_right (has_number places k) (nat_lt k least) (le-ltb k least (let more = first.more in omega arith))) in
+            ap (λ j. has_number (get_or (set rows place changed) j []) n) here
+            ∙ ap (λ r. has_number r n) (get_or-set_same rows place changed [] inside)
+            ∙ says n
+            ∙ ap (λ r. change (has_number r n) n) (get_or_default rows place default [] inside ∙ ap (λ j. get_or rows j []) (sym here))
+            ∙ ap (λ b. change b n) before
+            ∙ sym (cond-true (has_number places k && nat_lt k (next + 1)) (change (row_has old k n) n) (row_has old k n)
+            (and_from (has_number places k) (nat_lt k (next + 1)) (ap (has_number places) here ∙ first.listed) (lt-ltb k (next + 1) (omega arith))))
+        | inr other ↦
+            ap (λ r. has_number r n) (get_or-set_other rows place k changed [] other)
+            ∙ so_far.each k n
+            ∙ ap (λ t. cond t (change (row_has old k n) n) (row_has old k n))
+            (done_already places least place k first other ∙ ap (λ j. has_number places k && nat_lt k (j + 1)) (sym same))
+      ];
+    }
+
+pub IsChangedTo-all : (change : Bool → ℕ → Bool) (old new : List (List ℕ)) (places : List ℕ) (least : ℕ) → first_from least places ≡ None → IsChangedTo change old new places least
+    → (k n : ℕ) → row_has new k n ≡ cond (has_number places k) (change (row_has old k n) n) (row_has old k n)
+IsChangedTo-all change old new places least none so_far k n =
+    so_far.each k n
+    ∙ ap (λ t. cond t (change (row_has old k n) n) (row_has old k n)) (elim (cases_lt k least) [
+      | inl before ↦ and_true (has_number places k) (nat_lt k least) (lt-ltb k least before)
+      | inr after ↦
+          let unlisted = first_none places least none k after in
+          and_left (has_number places k) (nat_lt k least) unlisted ∙ sym unlisted
+    ])
+
+-- ---- the two changes
+
+abbrev pub with_all : List ℕ → Bool → ℕ → Bool
+with_all classes bit n = bit || has_number classes n
+
+abbrev pub without_one : ℕ → Bool → ℕ → Bool
+without_one class bit n = bit && not (n == class)
+
+pub with_all_said : (place bit new : Bool) → cond place (bit || new) bit ≡ (bit || (place && new))
+with_all_said true bit new = refl
+with_all_said false true new = refl
+with_all_said false false new = refl
+
+pub without_one_said : (place bit gone : Bool) → cond place (bit && not gone) bit ≡ (bit && not (place && gone))
+without_one_said true bit gone = refl
+without_one_said false true gone = refl
+without_one_said false false gone = refl

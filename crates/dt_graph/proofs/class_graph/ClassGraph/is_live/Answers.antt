@@ -1,8 +1,0 @@
-use Rattle.std.proofs.Common.{◌<◌, length, arith}
-use Rattle.dt_graph.proofs.Rows.{live_of-read}
-use Rattle.dt_graph.proofs.class_graph.ClassGraph.is_live.Goals as goal
-
-pub returns : goal.returns
-returns c =
-    let inside : c.number.result < length c.self.inside.rows.items = omega (arith, c.self.invariant.count, c.number.ensures.in_range) in
-    live_of-read c.args.self.now c.self.inside.rows.items c.index.result.now c.number.result c.args.class c.self.view_is c.number.ensures.value inside c.index.ensures

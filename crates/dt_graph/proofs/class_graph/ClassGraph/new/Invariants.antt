@@ -1,6 +1,0 @@
-use Rattle.std.proofs.Common.{◌≡◌, false, [], replicate}
-use Rattle.dt_graph.proofs.class_graph.ClassGraph.new.Given as goal
-
-abbrev pub invariant-loop-class : goal.invariant-loop-class
-invariant-loop-class l =
-    l.rows.items ≡ replicate l._class (record { is_live = false; parents = record { items = [] } })

@@ -1,0 +1,9 @@
+use Rattle.std.proofs.Common.{◌≡◌, ℕ, ◌<◌, ◌≤◌, length, get_or}
+use Rattle.std.specs.Prelude.{bit_or}
+use Rattle.dt_graph.proofs.class_set.ClassSet.insert_all.Given as goal
+
+abbrev pub invariant-loop-i : goal.invariant-loop-i
+invariant-loop-i l =
+    (length l.self-inside.words ≡ 32)
+    × ((j : ℕ) → j < l.i → get_or l.self-inside.words j 0 ≡ bit_or (get_or l.initial.self-inside.words j 0) (get_or l.other-inside.words j 0))
+    × ((j : ℕ) → l.i ≤ j → get_or l.self-inside.words j 0 ≡ get_or l.initial.self-inside.words j 0)

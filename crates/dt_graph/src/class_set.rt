@@ -1,0 +1,168 @@
+ghost use Rattle.std.specs.Prelude.{◌≡◌, ◌==◌, ℕ, ◌<◌, ◌≤◌, ◌&&◌, ◌||◌, not, [], ◌++◌, length, All, OnOk, OnErr};
+ghost use Rattle.dt_graph.specs.Graph.{has_number, place_number};
+ghost use Rattle.dt_graph.specs.Lawful.{AscendingNumbers};
+ghost use Rattle.dt_graph.specs.ClassSet.{first_from};
+
+use crate::class_no::ClassNo;
+use crate::limits::CLASSES;
+use crate::no_memory::NoMemory;
+use arrayvec::ArrayVec;
+use std::marker::Model;
+
+/// How many classes a word tells of.
+const BITS: usize = 64;
+
+/// How many words tell of all classes.
+const WORDS: usize = CLASSES as usize / BITS;
+
+const PLACES: usize = CLASSES as usize;
+
+/// A set of classes, a bit each. It is seen as the list of its numbers in ascending order.
+#[derive(Clone, Debug, Drop)]
+pub(crate) struct ClassSet {
+    words: [u64; WORDS],
+}
+
+impl Model for ClassSet {
+    ghost use Rattle.std.specs.Prelude.{ℕ, List};
+
+    ghost Value = { List ℕ };
+
+    ghost use Rattle.dt_graph.specs.ClassSet.{numbers_below};
+    ghost use Rattle.dt_graph.specs.declared.limits.TheConstants.{CLASSES};
+
+    ghost view = { λ s. numbers_below CLASSES s.words };
+}
+
+impl ClassSet {
+    /// The set with no class.
+    pub(crate) fn new() -> ClassSet
+        ensures { result ≡ [] }
+    {
+        ClassSet { words: [0; WORDS] }
+    }
+
+    /// An equal set.
+    pub(crate) fn copy(&self) -> ClassSet
+        ensures { result ≡ self.now }
+    {
+        ClassSet { words: self.words }
+    }
+
+    /// What holds of every set of classes. It does nothing: a caller whose reasoning needs this calls it.
+    pub(crate) fn law(&self)
+        ensures ascend { AscendingNumbers self.now }
+        ensures in_range { All (λ n. n < CLASSES) self.now }
+    {
+        let _ = &self.words;
+    }
+
+    /// Whether the class is in the set.
+    pub(crate) fn contains(&self, class: ClassNo) -> bool
+        ensures { result ≡ has_number self.now class }
+    {
+        let number = class.number() as usize;
+        (self.words[number / BITS] >> (number % BITS)) & 1 == 1
+    }
+
+    /// How many classes are in the set.
+    pub(crate) fn len(&self) -> usize
+        ensures value { result ≡ length self.now }
+        ensures in_range { result ≤ CLASSES }
+    {
+        let mut count = 0;
+        for word in &self.words {
+            count += word.count_ones() as usize;
+        }
+        count
+    }
+
+    /// The lowest class of the set whose number is `least` or more.
+    pub(crate) fn first_from(&self, least: usize) -> Option<ClassNo>
+        ensures { result ≡ first_from least self.now }
+    {
+        let words = &self.words;
+        let mut place = least / BITS;
+        if place >= WORDS {
+            return None;
+        }
+        // The bits of lower classes don't count.
+        let mut word = words[place] >> (least % BITS) << (least % BITS);
+        while word == 0 {
+            place += 1;
+            if place == WORDS {
+                return None;
+            }
+            word = words[place];
+        }
+        Some(ClassNo::from_index(place * BITS + word.trailing_zeros() as usize))
+    }
+
+    /// The class is in the set from now on.
+    pub(crate) fn insert(&mut self, class: ClassNo)
+        ensures { self.new ≡ place_number class self.old }
+    {
+        let number = class.number() as usize;
+        self.words[number / BITS] |= 1 << (number % BITS);
+    }
+
+    /// The class isn't in the set from now on.
+    pub(crate) fn remove(&mut self, class: ClassNo)
+        ensures { (n : ℕ) → has_number self.new n ≡ (has_number self.old n && not (n == class)) }
+    {
+        let number = class.number() as usize;
+        self.words[number / BITS] &= !(1 << (number % BITS));
+    }
+
+    /// The classes of the other set are in the set from now on, too.
+    pub(crate) fn insert_all(&mut self, other: &ClassSet)
+        ensures { (n : ℕ) → has_number self.new n ≡ (has_number self.old n || has_number other.now n) }
+    {
+        for i in 0..WORDS {
+            self.words[i] |= other.words[i];
+        }
+    }
+
+    /// The classes that aren't in the other set.
+    pub(crate) fn without(&self, other: &ClassSet) -> ClassSet
+        ensures { (n : ℕ) → has_number result n ≡ (has_number self.now n && not (has_number other.now n)) }
+    {
+        let mut words = self.words;
+        for i in 0..WORDS {
+            words[i] &= !other.words[i];
+        }
+        ClassSet { words }
+    }
+
+    /// Appends the classes, in ascending order. Where memory is wanting, `out` is as it was.
+    pub(crate) fn push_into(&self, out: &mut Vec<ClassNo>) -> Result<(), NoMemory>
+        ensures ok { OnOk result (out.new.items ≡ out.old.items ++ self.now) }
+        ensures err { OnErr result (out.new.items ≡ out.old.items) }
+    {
+        self.law();
+        let before = out.len();
+        let mut least = 0;
+        while let Some(class) = self.first_from(least) {
+            if out.push(class).is_err() {
+                out.truncate(before);
+                return Err(NoMemory);
+            }
+            least = class.number() as usize + 1;
+        }
+        Ok(())
+    }
+
+    /// The classes in ascending order.
+    pub(crate) fn classes(&self) -> ArrayVec<ClassNo, PLACES>
+        ensures { result.items ≡ self.now }
+    {
+        self.law();
+        let mut classes = ArrayVec::new();
+        let mut least = 0;
+        while let Some(class) = self.first_from(least) {
+            classes.push(class);
+            least = class.number() as usize + 1;
+        }
+        classes
+    }
+}
