@@ -1,8 +1,9 @@
 -- Lawful selectors stay lawful when one is placed among them or taken away.
-use Rattle.std.proofs.Common.{◌≡◌, ℕ, ◌<◌, ◌≤◌, Bool, true, false, cond, not, nat_lt, IsTrue, List, [], ◌∷◌, filter, eqb, refl, sym, subst, arith, All}
+use Rattle.std.proofs.Common.{◌≡◌, ℕ, ◌+◌, ◌<◌, ◌≤◌, Bool, true, false, cond, not, nat_lt, IsTrue, List, [], ◌∷◌, filter, eqb, refl, sym, subst, arith, All, count_by}
 use Rattle.std.proofs.lemmas.Bool.{ltb-true, ltb-false, lt-ltb, eqb-true, eqb-false, eq-eqb}
 use Rattle.std.proofs.lemmas.Bool.Decides.{nat_tests}
 use Rattle.std.proofs.lemmas.List.Elements.{All-nil, All-cons, All-head, All-tail, All-filter}
+use Rattle.std.proofs.lemmas.List.Sums.{sum_by-cons}
 use Rattle.dt_selectors.specs.Selectors.{Selector, place_selector, without_selector}
 use Rattle.dt_selectors.specs.Lawful.{AscendingSelectors, LawfulSelector, LawfulSelectors}
 
@@ -92,3 +93,18 @@ drop_keeps ss selector l = record {
   ascend = filter-ascends (λ s. not (eqb s.number selector)) ss l.ascend;
   in_range = All-filter (λ s. not (eqb s.number selector)) LawfulSelector ss l.in_range;
 }
+
+-- no selector stands twice
+not_above : (n : ℕ) (ss : List Selector) → Below n ss → count_by (λ s. eqb s.number n) ss ≡ 0
+not_above n [] b = refl
+not_above n (s ∷ ss) b = let h = not_above n ss b.1 in let above = b.0 in grind (arith, nat_tests)
+
+pub listed_once : (selector : ℕ) (ss : List Selector) → AscendingSelectors ss → count_by (λ s. eqb s.number selector) ss ≤ 1
+listed_once n [] h = omega arith
+listed_once n (s ∷ ss) h =
+    rw (sum_by-cons (λ t. cond (eqb t.number n) 1 0) s ss) (elim (eqb s.number n) as (λ b. eqb s.number n ≡ b → cond b 1 0 + count_by (λ t. eqb t.number n) ss ≤ 1) [
+      | true ↦ λ e.
+          let others : count_by (λ t. eqb t.number n) ss ≡ 0 =
+          subst (λ m. count_by (λ t. eqb t.number m) ss ≡ 0) (eqb-true s.number n e) (not_above s.number ss (first s ss h)) in omega (arith, others)
+      | false ↦ λ e. omega (arith, listed_once n ss (tail s ss h))
+    ] refl)

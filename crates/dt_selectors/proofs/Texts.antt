@@ -9,6 +9,7 @@ use Rattle.std.proofs.lemmas.List.{map-append}
 use Rattle.indexmap.specs.IndexSet.{insert_key}
 use Rattle.dt_selectors.specs.Names.{Names, same_text, is_name, place_of, with_text, with_name}
 use Rattle.dt_selectors.specs.Lawful.{LawfulNames, HasDistinctTexts}
+use Rattle.dt_selectors.specs.Laws.{KnownNamesStay, NewNamesAreLast, NumbersStay}
 
 -- a place in a list, where one more text stands before the list
 abbrev one_later : Option ℕ → Option ℕ
@@ -175,3 +176,20 @@ LawfulNames-last limit texts text lawful name new room = record {
   few = rw (length-append texts (text ∷ [])) (omega arith);
   limit_in_range = lawful.limit_in_range;
 }
+
+-- a name keeps its number, and a new one gets the next
+pub numbers_stay : NumbersStay
+numbers_stay names name added number is =
+    by (is_some (place_of added names.texts)) refl
+  where
+    by : (b : Bool) → is_some (place_of added names.texts) ≡ b → place_of name (with_name names added).texts ≡ Some number
+    by true e = rw (with_text-is added names.texts, e) is
+    by false e = rw (with_text-is added names.texts, e) (place_of-stays name names.texts (added ∷ []) number is)
+
+pub new_names_are_last : NewNamesAreLast
+new_names_are_last names name new =
+    let last = with_text-new name names.texts new in
+    (ap (place_of name) last ∙ place_of-last name names.texts new, last)
+
+pub known_names_stay : KnownNamesStay
+known_names_stay names name number known = with_name-known names name number known

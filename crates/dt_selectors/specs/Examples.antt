@@ -1,7 +1,8 @@
 -- Small worked examples of the definitions.
 use Rattle.std.specs.Prelude.{◌≡◌, ℕ, true, false, List, [], ◌∷◌, None, Some, replicate, refl}
-use Rattle.dt_selectors.specs.Names.{Names, place_of, with_name, is_full_for, is_name}
-use Rattle.dt_selectors.specs.Selectors.{Selector, arity_in, place_selector, without_selector, add_cause, drop_cause}
+use Rattle.dt_selectors.specs.Names.{Names, same_text, place_of, with_text, with_name, is_full_for, is_name_byte, is_name}
+use Rattle.dt_selectors.specs.Rows.{selectors_from}
+use Rattle.dt_selectors.specs.Selectors.{Selector, arity_in, has_selector, place_selector, without_selector, add_cause, drop_cause}
 use Rattle.dt_selectors.specs.declared.selectors.SelectorFault.TheVariants.{SelectorExists, SelectorUnknown}
 
 -- three texts: "ab", "b" and "c"
@@ -14,6 +15,16 @@ b = 98 ∷ []
 abbrev c : List ℕ
 c = 99 ∷ []
 
+-- a text is the same as itself, and not as one that it begins or that begins it
+same_as_itself : same_text ab ab ≡ true
+same_as_itself = refl
+
+not_as_a_longer : same_text (97 ∷ []) ab ≡ false
+not_as_a_longer = refl
+
+not_as_a_shorter : same_text ab (97 ∷ []) ≡ false
+not_as_a_shorter = refl
+
 -- two names of at most two
 abbrev two_names : Names
 two_names = with_name (with_name (record { limit = 2; texts = [] }) ab) b
@@ -21,6 +32,23 @@ two_names = with_name (with_name (record { limit = 2; texts = [] }) ab) b
 -- a name is numbered by its first appearance
 numbered_in_order : place_of b two_names.texts ≡ Some 1
 numbered_in_order = refl
+
+first_of_all : place_of ab two_names.texts ≡ Some 0
+first_of_all = refl
+
+not_there : place_of c two_names.texts ≡ None
+not_there = refl
+
+-- of a text that stood twice the place would be the first
+first_of_two : place_of b (ab ∷ b ∷ b ∷ []) ≡ Some 1
+first_of_two = refl
+
+-- a new text goes last, and the limit stays
+goes_last : with_text c (b ∷ ab ∷ []) ≡ b ∷ ab ∷ c ∷ []
+goes_last = refl
+
+limit_stays : (with_name two_names c).limit ≡ 2
+limit_stays = refl
 
 -- and keeps its number when it comes again
 number_stays : with_name two_names ab ≡ two_names
@@ -32,6 +60,23 @@ third_is_full = refl
 
 known_is_not_full : is_full_for two_names b ≡ false
 known_is_not_full = refl
+
+-- nor is the second
+second_is_not_full : is_full_for (record { limit = 2; texts = ab ∷ [] }) c ≡ false
+second_is_not_full = refl
+
+-- the bytes of a name go from ! to ~
+first_name_byte : is_name_byte 33 ≡ true
+first_name_byte = refl
+
+last_name_byte : is_name_byte 126 ≡ true
+last_name_byte = refl
+
+before_name_bytes : is_name_byte 32 ≡ false
+before_name_bytes = refl
+
+after_name_bytes : is_name_byte 127 ≡ false
+after_name_bytes = refl
 
 -- a space doesn't stand in a name, and a name isn't empty
 space_in_no_name : is_name (97 ∷ 32 ∷ []) ≡ false
@@ -52,9 +97,30 @@ abbrev two_selectors : List Selector
 two_selectors =
     place_selector (record { number = 7; arity = 1 }) (place_selector (record { number = 9; arity = 2 }) [])
 
+-- the lower number stands first, whichever came first, and a selector that comes again is replaced
+in_order : two_selectors ≡ record { number = 7; arity = 1 } ∷ record { number = 9; arity = 2 } ∷ []
+in_order = refl
+
+goes_behind : place_selector (record { number = 8; arity = 4 }) two_selectors
+    ≡ record { number = 7; arity = 1 } ∷ record { number = 8; arity = 4 } ∷ record { number = 9; arity = 2 } ∷ []
+goes_behind = refl
+
+replaced : place_selector (record { number = 9; arity = 3 }) two_selectors
+    ≡ record { number = 7; arity = 1 } ∷ record { number = 9; arity = 3 } ∷ []
+replaced = refl
+
 -- each has its own arity
 own_arity : arity_in two_selectors 9 ≡ Some 2
 own_arity = refl
+
+no_arity : arity_in two_selectors 8 ≡ None
+no_arity = refl
+
+is_there : has_selector two_selectors 7 ≡ true
+is_there = refl
+
+is_not_there : has_selector two_selectors 8 ≡ false
+is_not_there = refl
 
 -- a selector that is live isn't added, whatever its arity
 live_is_not_added : add_cause two_selectors 7 ≡ Some SelectorExists
@@ -67,5 +133,15 @@ new_is_added = refl
 unknown_is_not_dropped : drop_cause two_selectors 8 ≡ Some SelectorUnknown
 unknown_is_not_dropped = refl
 
+known_is_dropped : drop_cause two_selectors 9 ≡ None
+known_is_dropped = refl
+
 dropped_has_no_arity : arity_in (without_selector two_selectors 7) 7 ≡ None
 dropped_has_no_arity = refl
+
+the_other_stays : without_selector two_selectors 7 ≡ record { number = 9; arity = 2 } ∷ []
+the_other_stays = refl
+
+-- the rows of the numbers from 6 on
+rows_show : selectors_from 6 (None ∷ Some 1 ∷ None ∷ Some 2 ∷ None ∷ []) ≡ two_selectors
+rows_show = refl

@@ -1,5 +1,6 @@
 pub mod Examples
 pub mod Lawful
+pub mod Laws
 pub mod Names
 pub mod Rows
 pub mod Selectors

@@ -1,6 +1,7 @@
 ghost use Rattle.std.specs.Prelude.{ℕ, ◌<◌, ◌≤◌, List, []};
 ghost use Rattle.dt_selectors.specs.Selectors.{Selector, place_selector, without_selector};
 ghost use Rattle.dt_selectors.specs.Lawful.{LawfulSelector, LawfulSelectors};
+ghost use Rattle.dt_selectors.specs.Laws.{AddingSetsOneArity, DroppingUnsetsOneArity, KnownNamesStay, NewNamesAreLast, NumbersStay};
 
 /// No selectors are lawful, and lawful selectors stay so when one is placed among them or taken away. It does
 /// nothing: a caller whose reasoning needs this calls it.
@@ -10,4 +11,19 @@ pub fn changes_keep_law()
         → LawfulSelector selector → LawfulSelectors (place_selector selector selectors) }
     ensures drop { (selectors : List Selector) (selector : ℕ) → LawfulSelectors selectors
         → LawfulSelectors (without_selector selectors selector) }
+{}
+
+/// A selector's arity is changed by its own coming and going alone. It does nothing: a caller whose reasoning needs
+/// this calls it.
+pub fn changes_touch_one_selector()
+    ensures add { AddingSetsOneArity }
+    ensures drop { DroppingUnsetsOneArity }
+{}
+
+/// A name keeps its number when others come, a new one gets the next number, and a known one changes nothing. It does
+/// nothing: a caller whose reasoning needs this calls it.
+pub fn names_keep_their_numbers()
+    ensures stay { NumbersStay }
+    ensures new { NewNamesAreLast }
+    ensures known { KnownNamesStay }
 {}

@@ -1,4 +1,4 @@
-ghost use Rattle.std.specs.Prelude.{◌≡◌, ◌↔◌, ◌<◌, ◌≤◌, [], length, slice_get, option_copied, is_some, Ok, Err, Some, IfOk, IfSome, OnOk, OnErr, IsOk, IsErrOf, IsTrue};
+ghost use Rattle.std.specs.Prelude.{◌≡◌, ◌↔◌, ℕ, List, ◌<◌, ◌≤◌, [], length, slice_get, option_copied, is_some, Ok, Err, Some, IfOk, IfSome, OnOk, OnErr, IsOk, IsErrOf, IsTrue};
 ghost use Rattle.std.specs.List.{list_all};
 ghost use Rattle.dt_selectors.specs.Names.{is_name_byte, is_name, place_of, is_full_for, with_name};
 ghost use Rattle.dt_selectors.specs.Lawful.{LawfulNames};
@@ -69,6 +69,19 @@ impl Names {
         })
     }
 
+    /// What holds of all names. It does nothing: a caller whose reasoning needs this calls it.
+    pub fn law(&self)
+        ensures lawful { LawfulNames self.now }
+        ensures numbered { (number : ℕ) (text : List ℕ) → (slice_get self.now.texts number ≡ Some text)
+            ↔ (place_of text self.now.texts ≡ Some number) }
+        ensures are_names { (number : ℕ) (text : List ℕ) → slice_get self.now.texts number ≡ Some text
+            → IsTrue (is_name text) }
+        ensures few { (number : ℕ) (text : List ℕ) → place_of text self.now.texts ≡ Some number
+            → (number < self.now.limit) × (self.now.limit ≤ NAMES) }
+    {
+        let _ = &self.texts;
+    }
+
     /// Whether the text may be a name: 1 to 64 bytes that print, no space among them.
     pub fn is_name(text: &[u8]) -> bool
         ensures { result ≡ is_name text.now }
@@ -90,6 +103,7 @@ impl Names {
         ensures known { IsTrue (is_some (place_of text.now self.old.texts)) → IsOk result }
         ensures err { OnErr result (self.new ≡ self.old) }
     {
+        self.law();
         match self.place(text) {
             Some(number) => Ok(number),
             None if self.texts.len() >= self.limit as usize => Err(NameFault::NamesFull),
@@ -112,8 +126,7 @@ impl Names {
 
     /// How many names there are.
     pub fn len(&self) -> u32
-        ensures value { result ≡ length self.now.texts }
-        ensures lawful { LawfulNames self.now }
+        ensures { result ≡ length self.now.texts }
     {
         self.texts.len() as u32
     }
@@ -127,8 +140,7 @@ impl Names {
 
     // The number of a known name.
     fn place(&self, text: &[u8]) -> Option<u32>
-        ensures value { result ≡ place_of text.now self.now.texts }
-        ensures lawful { LawfulNames self.now }
+        ensures { result ≡ place_of text.now self.now.texts }
     {
         let place = self.texts.get_index_of(text)?;
         Some(place as u32)

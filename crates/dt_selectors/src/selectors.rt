@@ -1,4 +1,4 @@
-ghost use Rattle.std.specs.Prelude.{◌≡◌, ◌<◌, ◌≤◌, [], IfSome, IfOk, OnOk, OnErr};
+ghost use Rattle.std.specs.Prelude.{◌≡◌, ◌==◌, ℕ, ◌<◌, ◌≤◌, [], count_by, Some, IfSome, IfOk, OnOk, OnErr};
 ghost use Rattle.dt_graph.specs.Refusal.{ok_unless};
 ghost use Rattle.dt_selectors.specs.Selectors.{arity_in, place_selector, without_selector, add_cause, drop_cause};
 ghost use Rattle.dt_selectors.specs.Lawful.{LawfulSelectors};
@@ -56,11 +56,20 @@ impl Selectors {
         Ok(Selectors { rows })
     }
 
+    /// What holds of all selectors. It does nothing: a caller whose reasoning needs this calls it.
+    pub fn law(&self)
+        ensures lawful { LawfulSelectors self.now }
+        ensures live_in_range { (selector arity : ℕ) → arity_in self.now selector ≡ Some arity
+            → (selector < SELECTORS) × (0 < arity) × (arity ≤ 4) }
+        ensures listed_once { (selector : ℕ) → count_by (λ s. s.number == selector) self.now ≤ 1 }
+    {
+        let _ = &self.rows;
+    }
+
     /// How many arguments the selector takes; `None` exactly where it isn't live.
     pub fn arity(&self, selector: SelNo) -> Option<Arity>
         ensures value { result ≡ arity_in self.now selector }
         ensures in_range { IfSome result (λ arity. (0 < arity) × (arity ≤ 4)) }
-        ensures lawful { LawfulSelectors self.now }
     {
         let row = usize::from(selector.number());
         self.rows[row]

@@ -26,4 +26,4 @@ returns-clause-ok c =
 pub returns-clause-place : goal.returns-clause-place
 returns-clause-place c =
     rw (put c) (place_of-last c.args.text.now (map boxed_slice_items c.self.inside.texts.keys) (is_new c)
-    ∙ ap Some (ap (λ names. length names.texts) c.self.view_is ∙ sym c.len-number.ensures.value))
+    ∙ ap Some (ap (λ names. length names.texts) c.self.view_is ∙ sym c.len-number.ensures))

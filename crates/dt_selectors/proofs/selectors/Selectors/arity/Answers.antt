@@ -1,8 +1,7 @@
-use Rattle.std.proofs.Common.{◌<◌, length, ap, sym, subst, ◌∙◌, arith}
-use Rattle.dt_selectors.specs.Lawful.{LawfulSelectors}
+use Rattle.std.proofs.Common.{◌<◌, length, ap, sym, ◌∙◌, arith}
 use Rattle.dt_selectors.specs.Rows.{selectors_from}
 use Rattle.dt_selectors.specs.Selectors.{arity_in}
-use Rattle.dt_selectors.proofs.Rows.{arity-row, LawfulSelectors-rows}
+use Rattle.dt_selectors.proofs.Rows.{arity-row}
 use Rattle.dt_selectors.proofs.selectors.Selectors.arity.Goals as goal
 
 pub returns-clause-value : goal.returns-clause-value
@@ -12,7 +11,3 @@ returns-clause-value c =
     sym (arity-row c.self.inside.rows.items c.from-row.result c.index.result.now within c.index.ensures)
     ∙ ap (arity_in (selectors_from 0 c.self.inside.rows.items)) (c.from-row.ensures ∙ c.number.ensures.value)
     ∙ ap (λ selectors. arity_in selectors c.args.selector) c.self.view_is
-
-pub returns-clause-lawful : goal.returns-clause-lawful
-returns-clause-lawful c =
-    subst LawfulSelectors c.self.view_is (LawfulSelectors-rows c.self.inside.rows.items c.self.invariant.0 c.self.invariant.1)
