@@ -2,6 +2,7 @@ pub mod ClassOrder
 pub mod RowOrder
 pub mod RowChanges
 pub mod DefinitionOrder
+pub mod DefinedOnce
 pub mod DefinitionCounts
 pub mod Rows
 pub mod TableChanges
@@ -11,3 +12,7 @@ pub mod SelectorUndo
 pub mod DefinitionUndo
 pub mod UndoSteps
 pub mod Undoing
+pub mod BatchLaws
+pub mod DefinitionLaws
+pub mod Histories
+pub mod LawfulExamples

@@ -1,5 +1,5 @@
 -- Steps of edits: what a cause, or none, says of a step; how many definitions a step leaves.
-use Rattle.std.proofs.Common.{◌≡◌, ℕ, ◌≤◌, Bool, true, false, not, List, [], ◌∷◌, length, filter, option_map, Option, Some, None, Ok, Err, refl, sym, ap, ◌∙◌, arith, leb, ◌&&◌}
+use Rattle.std.proofs.Common.{◌≡◌, ℕ, ◌≤◌, Bool, true, false, not, List, [], ◌∷◌, length, filter, option_map, Option, Some, None, is_none, Ok, Err, IsTrue, refl, sym, ap, ◌∙◌, arith, leb, ◌&&◌}
 use Rattle.std.specs.List.{list_any}
 use Rattle.std.proofs.lemmas.Bool.{leb-false}
 use Rattle.dt_graph.specs.Refusal.{cause_if, first_cause, ok_unless}
@@ -8,6 +8,7 @@ use Rattle.dt_selectors.specs.Selectors.{has_selector}
 use Rattle.dt_definitions.specs.Program.{Definition, Program, is_definition, place_definition}
 use Rattle.dt_definitions.specs.Lawful.{AscendingDefinitions}
 use Rattle.dt_definitions.specs.Step.{why_of, has_definition, arity_differs, refusal, effect, step, with_definitions}
+use Rattle.dt_definitions.specs.Memory.{may_want_memory}
 use Rattle.dt_definitions.specs.declared.limits.TheConstants.{DEFINITIONS}
 use Rattle.dt_definitions.specs.declared.edit.Edit.{Edit}
 use Rattle.dt_definitions.specs.declared.edit.Edit.TheVariants.{Define}
@@ -90,3 +91,12 @@ pub defined_step : (p : Program) (s : ℕ) (cs : List ℕ) (body : ℕ) (new : L
     → new ≡ place_definition (record { selector = s; classes = cs; body = body }) p.definitions
     → step p (Define s cs body) ≡ Ok (with_definitions p new)
 defined_step p s cs body new h e = accepted p (Define s cs body) h ∙ rw e refl
+
+-- a definition that may be made, and isn't there yet, may want memory
+pub memory_due : (p : Program) (s : ℕ) (cs : List ℕ) (body : ℕ)
+    → None ≡ refusal p (Define s cs body) → (has_definition p s cs ≡ true → ⊥) → IsTrue (may_want_memory p (Define s cs body))
+memory_due p s cs body h absent =
+    elim (has_definition p s cs) as (λ t. has_definition p s cs ≡ t → IsTrue (is_none (refusal p (Define s cs body)) && not t)) [
+      | true ↦ λ there. absurd (absent there)
+      | false ↦ λ _. ap (λ o. is_none o && true) (sym h)
+    ] refl

@@ -1,6 +1,9 @@
 pub mod DefinitionRows
 pub mod Examples
 pub mod Lawful
+pub mod Laws
+pub mod Memory
+pub mod OrderExamples
 pub mod Parts
 pub mod Place
 pub mod Program

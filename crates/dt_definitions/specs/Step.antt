@@ -1,5 +1,5 @@
 -- What an edit and a batch of edits do to a program, or the first cause for which they are refused.
-use Rattle.std.specs.Prelude.{◌≡◌, ◌==◌, ℕ, ◌+◌, Bool, false, ◌&&◌, not, nat_le, List, [], ◌∷◌, length, Option, Result, Ok, Err, filter}
+use Rattle.std.specs.Prelude.{◌≡◌, ◌==◌, ℕ, ◌+◌, Bool, false, ◌&&◌, not, nat_le, List, [], ◌∷◌, ◌++◌, length, Option, Result, Ok, Err, filter}
 use Rattle.std.specs.List.{list_any}
 use Rattle.std.specs.Option.{option_map, option_map_or}
 use Rattle.std.specs.Result.{result_unwrap_or}
@@ -55,6 +55,14 @@ abbrev pub arity_differs : Program → ℕ → List ℕ → Bool
 arity_differs program selector classes =
     option_map_or (λ arity. not (arity == length classes)) (arity_of program selector) false
 
+-- why a selector has no place for the classes, whether it is defined there or not
+abbrev pub place_causes : Program → ℕ → List ℕ → List (Option Why)
+place_causes p selector classes =
+    cause_if (not (has_selector p.selectors selector)) why.SelectorUnknown
+    ∷ cause_if (arity_differs p selector classes) why.ArityDiffers
+    ∷ option_map why_of (first_unknown p.graph classes)
+    ∷ []
+
 -- why an edit is refused: the first of its causes that holds
 abbrev pub refusal : Program → Edit → Option Why
 refusal p (AddClass class parents) = option_map why_of (add_cause p.graph class parents)
@@ -70,16 +78,12 @@ refusal p (DropSelector selector) = first_cause
     ∷ cause_if (is_defined p selector) why.HasDefinitions
     ∷ [])
 refusal p (Define selector classes body) = first_cause
-    (cause_if (not (has_selector p.selectors selector)) why.SelectorUnknown
-    ∷ cause_if (arity_differs p selector classes) why.ArityDiffers
-    ∷ option_map why_of (first_unknown p.graph classes)
-    ∷ cause_if (nat_le DEFINITIONS (length p.definitions) && not (has_definition p selector classes)) why.DefinitionsFull
+    (place_causes p selector classes
+    ++ cause_if (nat_le DEFINITIONS (length p.definitions) && not (has_definition p selector classes)) why.DefinitionsFull
     ∷ [])
 refusal p (Undefine selector classes) = first_cause
-    (cause_if (not (has_selector p.selectors selector)) why.SelectorUnknown
-    ∷ cause_if (arity_differs p selector classes) why.ArityDiffers
-    ∷ option_map why_of (first_unknown p.graph classes)
-    ∷ cause_if (not (has_definition p selector classes)) why.NoDefinition
+    (place_causes p selector classes
+    ++ cause_if (not (has_definition p selector classes)) why.NoDefinition
     ∷ [])
 
 -- the program with another graph, other selectors or other definitions

@@ -3,6 +3,7 @@ ghost use Rattle.dt_definitions.specs.declared.edit.Edit.{Edit};
 ghost use Rattle.dt_definitions.specs.Program.{Program, empty_program};
 ghost use Rattle.dt_definitions.specs.Lawful.{Lawful, IsInRange};
 ghost use Rattle.dt_definitions.specs.Step.{step};
+ghost use Rattle.dt_definitions.specs.Laws.{BatchIsItsEdits, EditsAreABatch, BatchStopsAtItsEdit, DefineSetsOneBody, UndefineClearsOneBody, DefinesCommute, HistoriesAreLawful};
 
 /// The empty program is lawful, and the step of an edit on a lawful program, where it isn't refused, leaves a lawful
 /// one. It does nothing: a caller whose reasoning needs this calls it.
@@ -13,4 +14,28 @@ pub fn steps_keep_law()
 {
     dt_graph::changes_keep_law();
     dt_selectors::changes_keep_law();
+}
+
+/// A batch is accepted exactly where its edits are, made one by one; and it is refused at the first of them that is
+/// refused by itself, for the same cause. It does nothing: a caller whose reasoning needs this calls it.
+pub fn batches_are_their_edits()
+    ensures accepted { BatchIsItsEdits }
+    ensures one_by_one { EditsAreABatch }
+    ensures refused { BatchStopsAtItsEdit }
+{}
+
+/// A definition that is made or goes changes the body at its own selector and classes alone, so definitions at
+/// others may be made in either order. It does nothing: a caller whose reasoning needs this calls it.
+pub fn definitions_stand_alone()
+    ensures made { DefineSetsOneBody }
+    ensures gone { UndefineClearsOneBody }
+    ensures in_either_order { DefinesCommute }
+{}
+
+/// The program after every history of batches is lawful. It does nothing: a caller whose reasoning needs this calls
+/// it.
+pub fn histories_are_lawful()
+    ensures { HistoriesAreLawful }
+{
+    steps_keep_law();
 }

@@ -20,9 +20,14 @@ pub use defined::Defined;
 pub use dt_graph::{CLASSES, ClassGraph, ClassNo, NoMemory, PARENTS};
 pub use dt_selectors::{Arity, BODIES, BodyNo, SELECTORS, SelNo};
 pub use edit::Edit;
-pub use law::steps_keep_law;
+pub use law::{
+    batches_are_their_edits, definitions_stand_alone, histories_are_lawful, steps_keep_law,
+};
 pub use limits::DEFINITIONS;
 pub use parents::Parents;
 pub use program::Program;
 pub use tuple::Tuple;
 pub use why::{ApplyFault, BatchFault, Why};
+
+#[cfg(test)]
+mod tests;

@@ -1,11 +1,13 @@
-ghost use Rattle.std.specs.Prelude.{◌≡◌, ℕ, ◌≤◌, not, find, length, reverse, IsTrue, OnOk};
+ghost use Rattle.std.specs.Prelude.{◌≡◌, ℕ, ◌≤◌, ◌^◌, false, not, find, [], ◌∷◌, length, reverse, IsTrue, OnOk};
 ghost use Rattle.dt_graph.specs.Graph.{is_live};
+ghost use Rattle.dt_graph.specs.Refusal.{first_cause};
 ghost use Rattle.dt_definitions.specs.Parts.{program_of};
 ghost use Rattle.dt_definitions.specs.Lawful.{Lawful};
 ghost use Rattle.dt_definitions.specs.Undo.{class_in, selector_in, definition_in, kept_of, restore_selector, restore_definition, restored, undone, HasRoom, CanUndo};
 ghost use Rattle.dt_definitions.specs.DefinitionRows.{HasRoomFor, RoomStays};
 ghost use Rattle.dt_definitions.specs.declared.edit.Edit.{Edit};
-ghost use Rattle.dt_definitions.specs.Step.{is_named, refusal, Applies, AppliesBatch};
+ghost use Rattle.dt_definitions.specs.Step.{is_named, place_causes, refusal, Applies, AppliesBatch};
+ghost use Rattle.dt_definitions.specs.Memory.{may_want_memory, batch_may_want_memory, NoMemoryOnlyWhere, BatchNoMemoryOnlyWhere};
 
 use crate::batch::Batch;
 use crate::definition_table::DefinitionTable;
@@ -18,6 +20,7 @@ use crate::why::{ApplyFault, BatchFault, Why};
 use arrayvec::ArrayVec;
 use dt_graph::{ClassGraph, ClassNo};
 use dt_selectors::{Arity, BodyNo, SelNo, Selectors};
+use std::alloc::Global;
 
 /// The three parts of a program, and the edits of them.
 #[derive(Debug, Drop)]
@@ -64,6 +67,7 @@ impl Parts {
     pub(crate) fn apply(&mut self, edit: &Edit) -> Result<(), ApplyFault>
         requires { Lawful (program_of self.old) }
         ensures applies { Applies (program_of self.old) edit.now (program_of self.new) result }
+        ensures memory { NoMemoryOnlyWhere (may_want_memory (program_of self.old) edit.now) result }
         ensures lawful { Lawful (program_of self.new) }
         ensures undo { OnOk result (restored (program_of self.new) (kept_of (program_of self.old) edit.now) ≡ program_of self.old) }
         ensures room { OnOk result (HasRoom self.new.definitions (kept_of (program_of self.old) edit.now)) }
@@ -78,6 +82,7 @@ impl Parts {
     fn perform(&mut self, edit: &Edit) -> Result<(), ApplyFault>
         requires { Lawful (program_of self.old) }
         ensures applies { Applies (program_of self.old) edit.now (program_of self.new) result }
+        ensures memory { NoMemoryOnlyWhere (may_want_memory (program_of self.old) edit.now) result }
         ensures room { OnOk result (HasRoom self.new.definitions (kept_of (program_of self.old) edit.now)) }
         ensures room_stays { RoomStays self.old.definitions.rooms self.new.definitions.rooms }
     {
@@ -99,6 +104,7 @@ impl Parts {
 
     fn add_class(&mut self, class: ClassNo, parents: &[ClassNo]) -> Result<(), ApplyFault>
         ensures applies { Applies (program_of self.old) (Edit.AddClass class parents.now) (program_of self.new) result }
+        ensures memory { NoMemoryOnlyWhere false result }
         ensures definitions_stay { self.new.definitions ≡ self.old.definitions }
     {
         Ok(self.graph.add(class, parents)?)
@@ -117,6 +123,7 @@ impl Parts {
 
     fn drop_class(&mut self, class: ClassNo) -> Result<(), ApplyFault>
         ensures applies { Applies (program_of self.old) (Edit.DropClass class) (program_of self.new) result }
+        ensures memory { NoMemoryOnlyWhere false result }
         ensures definitions_stay { self.new.definitions ≡ self.old.definitions }
     {
         if self.definitions.names(class) {
@@ -127,6 +134,7 @@ impl Parts {
 
     fn link(&mut self, class: ClassNo, parent: ClassNo) -> Result<(), ApplyFault>
         ensures applies { Applies (program_of self.old) (Edit.Link class parent) (program_of self.new) result }
+        ensures memory { NoMemoryOnlyWhere false result }
         ensures definitions_stay { self.new.definitions ≡ self.old.definitions }
     {
         Ok(self.graph.link(class, parent)?)
@@ -134,6 +142,7 @@ impl Parts {
 
     fn unlink(&mut self, class: ClassNo, parent: ClassNo) -> Result<(), ApplyFault>
         ensures applies { Applies (program_of self.old) (Edit.Unlink class parent) (program_of self.new) result }
+        ensures memory { NoMemoryOnlyWhere false result }
         ensures definitions_stay { self.new.definitions ≡ self.old.definitions }
     {
         Ok(self.graph.unlink(class, parent)?)
@@ -141,6 +150,7 @@ impl Parts {
 
     fn add_selector(&mut self, selector: SelNo, arity: Arity) -> Result<(), ApplyFault>
         ensures applies { Applies (program_of self.old) (Edit.AddSelector selector arity) (program_of self.new) result }
+        ensures memory { NoMemoryOnlyWhere false result }
         ensures definitions_stay { self.new.definitions ≡ self.old.definitions }
     {
         Ok(self.selectors.add(selector, arity)?)
@@ -161,6 +171,7 @@ impl Parts {
 
     fn drop_selector(&mut self, selector: SelNo) -> Result<(), ApplyFault>
         ensures applies { Applies (program_of self.old) (Edit.DropSelector selector) (program_of self.new) result }
+        ensures memory { NoMemoryOnlyWhere false result }
         ensures definitions_stay { self.new.definitions ≡ self.old.definitions }
     {
         if let Some(why) = self.drop_selector_cause(selector) {
@@ -179,9 +190,9 @@ impl Parts {
             .find(|class| !self.graph.is_live(*class))
     }
 
-    /// Why the selector can't be defined at these classes.
-    fn define_cause(&self, selector: SelNo, classes: &[ClassNo]) -> Option<Why>
-        ensures { (body : ℕ) → result ≡ refusal (program_of self.now) (Edit.Define selector classes.now body) }
+    /// Why the selector has no place for these classes, whether it is defined there or not.
+    fn place_cause(&self, selector: SelNo, classes: &[ClassNo]) -> Option<Why>
+        ensures { result ≡ first_cause (place_causes (program_of self.now) selector classes.now) }
     {
         let Some(arity) = self.selectors.arity(selector) else {
             return Some(Why::SelectorUnknown);
@@ -191,6 +202,16 @@ impl Parts {
         }
         if let Some(class) = self.first_unknown(classes) {
             return Some(Why::ClassUnknown { class });
+        }
+        None
+    }
+
+    /// Why the selector can't be defined at these classes.
+    fn define_cause(&self, selector: SelNo, classes: &[ClassNo]) -> Option<Why>
+        ensures { (body : ℕ) → result ≡ refusal (program_of self.now) (Edit.Define selector classes.now body) }
+    {
+        if let Some(why) = self.place_cause(selector, classes) {
+            return Some(why);
         }
         if self.definitions.len() >= DEFINITIONS && !self.definitions.has(selector, classes) {
             return Some(Why::DefinitionsFull);
@@ -202,14 +223,8 @@ impl Parts {
     fn undefine_cause(&self, selector: SelNo, classes: &[ClassNo]) -> Option<Why>
         ensures { result ≡ refusal (program_of self.now) (Edit.Undefine selector classes.now) }
     {
-        let Some(arity) = self.selectors.arity(selector) else {
-            return Some(Why::SelectorUnknown);
-        };
-        if usize::from(arity.number()) != classes.len() {
-            return Some(Why::ArityDiffers);
-        }
-        if let Some(class) = self.first_unknown(classes) {
-            return Some(Why::ClassUnknown { class });
+        if let Some(why) = self.place_cause(selector, classes) {
+            return Some(why);
         }
         if !self.definitions.has(selector, classes) {
             return Some(Why::NoDefinition);
@@ -220,6 +235,7 @@ impl Parts {
     fn define(&mut self, selector: SelNo, classes: Tuple, body: BodyNo) -> Result<(), ApplyFault>
         requires { Lawful (program_of self.old) }
         ensures applies { Applies (program_of self.old) (Edit.Define selector classes body) (program_of self.new) result }
+        ensures memory { NoMemoryOnlyWhere (may_want_memory (program_of self.old) (Edit.Define selector classes body)) result }
         ensures room { OnOk result (HasRoomFor self.new.definitions selector classes) }
         ensures room_stays { RoomStays self.old.definitions.rooms self.new.definitions.rooms }
     {
@@ -231,6 +247,7 @@ impl Parts {
 
     fn undefine(&mut self, selector: SelNo, classes: &[ClassNo]) -> Result<(), ApplyFault>
         ensures applies { Applies (program_of self.old) (Edit.Undefine selector classes.now) (program_of self.new) result }
+        ensures memory { NoMemoryOnlyWhere false result }
         ensures room { OnOk result (HasRoomFor self.new.definitions selector classes.now) }
         ensures room_stays { RoomStays self.old.definitions.rooms self.new.definitions.rooms }
     {
@@ -331,15 +348,28 @@ impl Parts {
         }
     }
 
-    /// The edits of the batch in order, or none where one is refused or memory is wanting.
-    pub(crate) fn apply_batch(&mut self, batch: &Batch) -> Result<(), BatchFault>
+    /// The one edit of a batch.
+    fn apply_alone(&mut self, edit: &Edit) -> Result<(), BatchFault>
         requires { Lawful (program_of self.old) }
-        ensures applies { AppliesBatch (program_of self.old) batch.now (program_of self.new) result }
+        ensures applies { AppliesBatch (program_of self.old) (edit.now ∷ []) (program_of self.new) result }
+        ensures memory { BatchNoMemoryOnlyWhere (may_want_memory (program_of self.old) edit.now) result }
         ensures lawful { Lawful (program_of self.new) }
     {
-        let edits = batch.as_slice();
+        match self.apply(edit) {
+            Ok(()) => Ok(()),
+            Err(fault) => Err(BatchFault::at(1, fault)),
+        }
+    }
+
+    /// All edits in order, or none where one is refused or memory is wanting.
+    fn apply_all(&mut self, alloc: Global, edits: &[Edit]) -> Result<(), BatchFault>
+        requires lawful { Lawful (program_of self.old) }
+        requires few { length edits.now ≤ 2 ^ 31 }
+        ensures applies { AppliesBatch (program_of self.old) edits.now (program_of self.new) result }
+        ensures lawful { Lawful (program_of self.new) }
+    {
         // All the room that undoing needs is taken before the first edit.
-        let Ok(mut kept) = Vec::with_capacity(batch.allocator(), edits.len()) else {
+        let Ok(mut kept) = Vec::with_capacity(alloc, edits.len()) else {
             return Err(BatchFault::NoMemory);
         };
         for (index, edit) in edits.iter().enumerate() {
@@ -351,5 +381,20 @@ impl Parts {
             kept.push_reserved(before);
         }
         Ok(())
+    }
+
+    /// The edits of the batch in order, or none where one is refused or memory is wanting. Only where there are
+    /// several can one have to be undone.
+    pub(crate) fn apply_batch(&mut self, batch: &Batch) -> Result<(), BatchFault>
+        requires { Lawful (program_of self.old) }
+        ensures applies { AppliesBatch (program_of self.old) batch.now (program_of self.new) result }
+        ensures memory { BatchNoMemoryOnlyWhere (batch_may_want_memory (program_of self.old) batch.now) result }
+        ensures lawful { Lawful (program_of self.new) }
+    {
+        match batch.as_slice() {
+            [] => Ok(()),
+            [edit] => self.apply_alone(edit),
+            edits => self.apply_all(batch.allocator(), edits),
+        }
     }
 }

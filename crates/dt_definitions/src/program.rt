@@ -1,13 +1,14 @@
-ghost use Rattle.std.specs.Prelude.{◌≡◌, ℕ, ◌<◌, length, Some, IsTrue, IfOk, All};
+ghost use Rattle.std.specs.Prelude.{◌≡◌, ℕ, ◌<◌, length, Some, IsTrue, IfOk, All, ◌≤◌, List, count_by};
 ghost use Rattle.std.specs.Option.{option_map};
 ghost use Rattle.dt_graph.specs.Graph.{is_live};
 ghost use Rattle.dt_graph.specs.Below.{HasNoCycle};
 ghost use Rattle.dt_graph.specs.declared.limits.TheConstants.{CLASSES};
-ghost use Rattle.dt_definitions.specs.Program.{empty_program, arity_of, definitions_of};
+ghost use Rattle.dt_definitions.specs.Program.{empty_program, arity_of, definitions_of, is_definition};
 ghost use Rattle.dt_definitions.specs.Lawful.{Lawful};
 ghost use Rattle.dt_definitions.specs.DefinitionRows.{with_selector};
 ghost use Rattle.dt_definitions.specs.Place.{at_place};
 ghost use Rattle.dt_definitions.specs.Step.{Applies, AppliesBatch};
+ghost use Rattle.dt_definitions.specs.Memory.{may_want_memory, batch_may_want_memory, NoMemoryOnlyWhere, BatchNoMemoryOnlyWhere};
 
 use crate::batch::Batch;
 use crate::defined::Defined;
@@ -100,6 +101,7 @@ impl Program {
         ensures live_in_range { (class : ℕ) → IsTrue (is_live self.now.graph class) → class < CLASSES }
         ensures definitions_fit { (selector : ℕ) → All (λ d. (arity_of self.now selector ≡ Some (length d.classes))
             × All (λ class. IsTrue (is_live self.now.graph class)) d.classes) (definitions_of self.now selector) }
+        ensures defined_once { (selector : ℕ) (classes : List ℕ) → count_by (is_definition selector classes) self.now.definitions ≤ 1 }
         ensures no_cycle { HasNoCycle self.now.graph.links }
     {
         self.parts.graph.law();
@@ -123,7 +125,7 @@ impl Program {
     }
 
     /// The program after the edit, or the first cause for which it is refused. After a refusal or want of memory
-    /// the program is as it was.
+    /// the program is as it was. Only a definition that isn't refused and isn't there yet takes memory.
     ///
     /// The causes, in order:
     /// - `AddClass`: the class is live; there are more than 16 parents; a parent isn't live (the first); a parent
@@ -139,7 +141,8 @@ impl Program {
     /// - `Undefine`: the selector isn't live; it takes another number of arguments; a class isn't live (the first);
     ///   there is no such definition.
     pub fn apply(&mut self, edit: &Edit) -> Result<(), ApplyFault>
-        ensures { Applies self.old edit.now self.new result }
+        ensures applies { Applies self.old edit.now self.new result }
+        ensures memory { NoMemoryOnlyWhere (may_want_memory self.old edit.now) result }
     {
         self.parts.apply(edit)
     }
@@ -148,9 +151,11 @@ impl Program {
     /// its cause. After a refusal or want of memory the program is as it was.
     ///
     /// It costs what its edits cost: where a later edit is refused, what the earlier ones changed is restored. The
-    /// room for that is taken before the first edit.
+    /// room for that is taken before the first edit. A batch without edits takes no memory, and a batch of one edit
+    /// only what the edit takes by itself.
     pub fn apply_batch(&mut self, batch: &Batch) -> Result<(), BatchFault>
-        ensures { AppliesBatch self.old batch.now self.new result }
+        ensures applies { AppliesBatch self.old batch.now self.new result }
+        ensures memory { BatchNoMemoryOnlyWhere (batch_may_want_memory self.old batch.now) result }
     {
         self.parts.apply_batch(batch)
     }

@@ -4,7 +4,7 @@ use Rattle.dt_definitions.specs.Parts.{program_of}
 use Rattle.dt_definitions.specs.Step.{step_batch}
 use Rattle.dt_definitions.specs.Undo.{CanUndo, undone, restored, HasRoom}
 use Rattle.dt_definitions.proofs.Undoing.{reverse_push, can_more, can_step, rest_applied, unchanged}
-use Rattle.dt_definitions.proofs.parts.Parts.apply_batch.Goals as goal
+use Rattle.dt_definitions.proofs.parts.Parts.apply_all.Goals as goal
 
 pub undo-requires-clause-can : goal.undo-requires-clause-can
 undo-requires-clause-can c =
@@ -25,8 +25,8 @@ loop-index-preserved c =
     let room = subst (HasRoom c.apply.new.self.definitions) (sym c.kept-before.ensures) answer.room in
     let longer = ap reverse c.push_reserved.ensures.items ∙ reverse_push c.loop-index.kept.items before in
     record {
-      rest = rest_applied c.as_slice-edits.result.now c.loop-index.index c.index-edits-index.result old new
-          (step_batch (program_of c.args.self.now) c.as_slice-edits.result.now)
+      rest = rest_applied c.args.edits.now c.loop-index.index c.index-edits-index.result old new
+          (step_batch (program_of c.args.self.now) c.args.edits.now)
           (omega arith) c.index-edits-index.is answer.applies c.loop-index.invariant.rest;
       lawful = c.apply.ensures.lawful;
       can = subst (λ log. CanUndo c.apply.new.self.definitions.rooms new log) (sym longer)

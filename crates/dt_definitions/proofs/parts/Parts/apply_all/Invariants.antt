@@ -3,7 +3,7 @@ use Rattle.dt_definitions.specs.Parts.{program_of}
 use Rattle.dt_definitions.specs.Lawful.{Lawful}
 use Rattle.dt_definitions.specs.Step.{step_from, step_batch}
 use Rattle.dt_definitions.specs.Undo.{CanUndo, undone}
-use Rattle.dt_definitions.proofs.parts.Parts.apply_batch.Given as goal
+use Rattle.dt_definitions.proofs.parts.Parts.apply_all.Given as goal
 
 abbrev pub invariant-loop-index : goal.invariant-loop-index
 invariant-loop-index l = record {

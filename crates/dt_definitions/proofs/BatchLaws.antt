@@ -1,0 +1,81 @@
+-- A batch against its edits made one by one.
+use Rattle.std.proofs.Common.{◌≡◌, ℕ, ◌+◌, List, [], ◌∷◌, ◌++◌, length, Ok, Err, Result, refl, sym, ap, ◌∙◌, arith}
+use Rattle.dt_definitions.specs.Program.{Program}
+use Rattle.dt_definitions.specs.Step.{step, step_from, and_then, Refused}
+use Rattle.dt_definitions.specs.Laws.{LeadsTo, StopsAt, BatchIsItsEdits, EditsAreABatch, BatchStopsAtItsEdit}
+use Rattle.dt_definitions.specs.declared.edit.Edit.{Edit}
+use Rattle.dt_definitions.specs.declared.why.Why.{Why}
+
+leads : (place : ℕ) (p q : Program) (edits : List Edit) → step_from place p edits ≡ Ok q → LeadsTo p edits q
+leads place p q [] h = cc
+leads place p q (edit ∷ edits) h =
+    let rest : (next : Program) → step_from (place + 1) next edits ≡ Ok q → LeadsTo next edits q = λ next e. leads (place + 1) next q edits e in
+    elim (step p edit) as (λ s. step p edit ≡ s → and_then s place (λ next. step_from (place + 1) next edits) ≡ Ok q → LeadsTo p (edit ∷ edits) q) [
+      | (Ok next) ↦ λ e k. (next, e, rest next k)
+      | (Err why) ↦ λ e k. absurd cc
+    ] refl h
+
+follows : (place : ℕ) (p q : Program) (edits : List Edit) → LeadsTo p edits q → step_from place p edits ≡ Ok q
+follows place p q [] h = ap Ok h
+follows place p q (edit ∷ edits) h =
+    ap (λ s. and_then s place (λ next. step_from (place + 1) next edits)) h.1 ∙ follows (place + 1) h.0 q edits h.2
+
+-- the place of the refused edit, counted from that of the first
+record Stops (place : ℕ) (p : Program) (edits : List Edit) (refused : Refused) : Type 0 where
+  before : List Edit
+  edit : Edit
+  later : List Edit
+  reached : Program
+  whole : edits ≡ before ++ edit ∷ later
+  counted : refused.at ≡ length before + place
+  accepted : LeadsTo p before reached
+  cause : step reached edit ≡ Err refused.why
+
+stops : (place : ℕ) (p : Program) (edits : List Edit) (refused : Refused)
+    → step_from place p edits ≡ Err refused → Stops place p edits refused
+stops place p [] refused h = absurd cc
+stops place p (edit ∷ edits) refused h =
+    let rest : (next : Program) → step_from (place + 1) next edits ≡ Err refused → Stops (place + 1) next edits refused = λ next e. stops (place + 1) next edits refused e in
+    elim (step p edit) as (λ s. step p edit ≡ s → and_then s place (λ next. step_from (place + 1) next edits) ≡ Err refused → Stops place p (edit ∷ edits) refused) [
+      | (Ok next) ↦ λ e k.
+          let r = rest next k in record {
+            before = edit ∷ r.before;
+            edit = r.edit;
+            later = r.later;
+            reached = r.reached;
+            whole = ap (λ es. edit ∷ es) r.whole;
+            counted = r.counted ∙ omega arith;
+            accepted = (next, e, r.accepted);
+            cause = r.cause;
+          }
+      | (Err why) ↦ λ e k.
+          let same : record { at = place; why = why } ≡ refused = cc in record {
+            before = [];
+            edit = edit;
+            later = edits;
+            reached = p;
+            whole = refl;
+            counted = sym (ap (λ (r : Refused). r.at) same) ∙ omega arith;
+            accepted = refl;
+            cause = e ∙ ap (λ (r : Refused). Err r.why) same;
+          }
+    ] refl h
+
+pub batch_is_its_edits : BatchIsItsEdits
+batch_is_its_edits p q edits h = leads 1 p q edits h
+
+pub edits_are_a_batch : EditsAreABatch
+edits_are_a_batch p q edits h = follows 1 p q edits h
+
+pub batch_stops : BatchStopsAtItsEdit
+batch_stops p edits refused h =
+    let s = stops 1 p edits refused h in record {
+      before = s.before;
+      edit = s.edit;
+      later = s.later;
+      reached = s.reached;
+      whole = s.whole;
+      place = s.counted;
+      accepted = s.accepted;
+      cause = s.cause;
+    }
