@@ -1,6 +1,8 @@
 pub mod AnswerAmong
 pub mod Best
+pub mod FreeOrder
 pub mod LiveNumbers
+pub mod Lowest
 pub mod Members
 pub mod MoreSpecific
 pub mod OtherReplies

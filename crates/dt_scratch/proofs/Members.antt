@@ -1,8 +1,8 @@
 -- Which elements stand in a list, and which of them a filter keeps.
-use Rattle.std.proofs.Common.{◌≡◌, ℕ, zero, suc, ◌<◌, Bool, true, false, ◌&&◌, ◌||◌, cond, List, [], ◌∷◌, ◌++◌, length, map, get_or, ◌⊎◌, inl, inr, refl, sym, ap, ◌∙◌, arith}
+use Rattle.std.proofs.Common.{◌≡◌, ℕ, zero, suc, ◌<◌, ◌≤◌, Bool, true, false, ◌&&◌, ◌||◌, cond, List, [], ◌∷◌, ◌++◌, length, map, get_or, ◌⊎◌, inl, inr, refl, sym, ap, subst, ◌∙◌, arith, All}
 use Rattle.std.specs.List.{Contains, filter, list_any}
 use Rattle.std.proofs.lemmas.Bool.{or_parts, or_from}
-use Rattle.std.proofs.lemmas.List.Elements.{Contains-append_right}
+use Rattle.std.proofs.lemmas.List.Elements.{All-nil, All-cons, All-head, All-tail, Contains-append_right}
 
 pub by_cases : {G : Type 0} (b : Bool) → (b ≡ true → G) → (b ≡ false → G) → G
 by_cases true f g = f refl
@@ -63,7 +63,29 @@ module _ {T : Type 0} (p : T → Bool) where
   In-from_filter [] x i = absurd i
   In-from_filter (y ∷ ys) x i = In-filter-cons (p y) y ys x refl i (In-from_filter ys x)
 
+module _ {T : Type 0} (P : T → Type 0) where
+  -- what holds of all elements holds of each, and the other way round
+  pub All-from_In : (xs : List T) → ((x : T) → In xs x → P x) → All P xs
+  All-from_In [] f = All-nil P
+  All-from_In (y ∷ ys) f = All-cons P y ys (f y (inl refl)) (All-from_In ys (λ x i. f x (inr i)))
+
+  pub All-In : (xs : List T) (x : T) → All P xs → In xs x → P x
+  All-In [] x all i = absurd i
+  All-In (y ∷ ys) x all (inl e) = subst P (sym e) (All-head P y ys all)
+  All-In (y ∷ ys) x all (inr i) = All-In ys x (All-tail P y ys all) i
+
 module _ {T : Type 0} (p q : T → Bool) where
+  -- a stronger test keeps no more
+  pub filter_fewer : (xs : List T) → ((x : T) → In xs x → p x ≡ true → q x ≡ true) →
+      length (filter p xs) ≤ length (filter q xs)
+  filter_fewer [] f = omega arith
+  filter_fewer (y ∷ ys) f =
+      let fewer = filter_fewer ys (λ x i. f x (inr i)) in
+      by_cases (p y)
+      (λ e. rw (e, f y (inl refl) e) (omega (arith, fewer)))
+      (λ e. rw e (elim (q y) as (λ v. length (filter p ys) ≤ length (cond v (y ∷ filter q ys) (filter q ys)))
+      [ true ↦ omega (arith, fewer) | false ↦ fewer ]))
+
   -- tests that agree at each element keep the same elements
   pub filter_agree_in : (xs : List T) → ((x : T) → In xs x → p x ≡ q x) → filter p xs ≡ filter q xs
   filter_agree_in [] f = refl

@@ -7,7 +7,7 @@ use Rattle.dt_definitions.specs.Program.{same_classes}
 use Rattle.dt_scratch.specs.Resolve.{are_below}
 use Rattle.dt_scratch.specs.Among.{is_more_specific_at, IsTransitive}
 
-same_classes-refl : (xs : List ℕ) → same_classes xs xs ≡ true
+pub same_classes-refl : (xs : List ℕ) → same_classes xs xs ≡ true
 same_classes-refl [] = refl
 same_classes-refl (x ∷ xs) = and_from _ _ (eq-eqb x x refl) (same_classes-refl xs)
 

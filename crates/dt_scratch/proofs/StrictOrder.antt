@@ -75,7 +75,7 @@ module _ {T : Type 0} (less : T → T → Bool) (irreflexive : (x : T) → less 
         let e = filter-weaker (none_less less xs) (λ x. not (less c x)) xs unbeaten in
         sym e ∙ one_left _ n (subst (λ ys. In ys c) (sym e) is_least)
 
-    least_is_c : least less xs ≡ c ∷ [] → (r : T) → In xs r → list_any (λ z. less z r) xs ≡ false → r ≡ c
+    pub least_is_c : least less xs ≡ c ∷ [] → (r : T) → In xs r → list_any (λ z. less z r) xs ≡ false → r ≡ c
     least_is_c e r i n =
         ⊎_elim (λ q. q) (λ f. absurd f) (subst (λ ys. In ys r) e (In-filter (none_less less xs) xs r i (ap not n)))
 

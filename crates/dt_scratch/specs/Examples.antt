@@ -1,13 +1,14 @@
 -- Worked examples of look-up from scratch.
-use Rattle.std.specs.Prelude.{◌≡◌, ℕ, List, [], ◌∷◌, refl}
-use Rattle.std.specs.declared.cmp.Ordering.TheVariants.{Less}
+use Rattle.std.specs.Prelude.{◌≡◌, ℕ, true, false, List, [], ◌∷◌, None, Some, refl}
+use Rattle.std.specs.declared.cmp.Ordering.TheVariants.{Less, Equal}
 use Rattle.dt_graph.specs.GraphChange.{add_effect, unlink_effect}
 use Rattle.dt_graph.specs.Graph.{Graph, empty_graph}
 use Rattle.dt_definitions.specs.Program.{Definition, Program, place_definition}
 use Rattle.dt_scratch.specs.declared.reply.Answer.TheVariants.{Method, NotUnderstood, Ambiguous}
 use Rattle.dt_scratch.specs.declared.reply.Reply.TheVariants.{NoSelector, WrongArity, NoClass, Answered}
-use Rattle.dt_scratch.specs.Query.{Query, query_order}
-use Rattle.dt_scratch.specs.Resolve.{reply}
+use Rattle.dt_scratch.specs.Query.{Query, arity_of_query, is_same_query, query_order}
+use Rattle.dt_scratch.specs.QueryParts.{pad}
+use Rattle.dt_scratch.specs.Resolve.{are_below, applicable, is_more_specific, minimal, answer_by, answer, first_dead, reply, cell}
 
 -- a selector's number, and a query of one class or two
 abbrev asks : ℕ → ℕ → Query
@@ -75,6 +76,80 @@ unlink_settles :
     reply (program_of (unlink_effect diamond_graph D C) diamond_definitions) (asks f D) ≡ Answered (Method 10)
 unlink_settles = refl
 
+-- below in every place, with as many places
+below_itself : are_below diamond_graph.links (D ∷ A ∷ []) (D ∷ A ∷ []) ≡ true
+below_itself = refl
+
+below_in_both : are_below diamond_graph.links (D ∷ B ∷ []) (A ∷ A ∷ []) ≡ true
+below_in_both = refl
+
+not_in_the_second : are_below diamond_graph.links (D ∷ A ∷ []) (A ∷ B ∷ []) ≡ false
+not_in_the_second = refl
+
+not_by_fewer : are_below diamond_graph.links (D ∷ []) (A ∷ A ∷ []) ≡ false
+not_by_fewer = refl
+
+not_by_more : are_below diamond_graph.links (D ∷ D ∷ []) (A ∷ []) ≡ false
+not_by_more = refl
+
+-- what a selector is at a class
+abbrev at : ℕ → ℕ → ℕ → Definition
+at selector class body = record { selector = selector; classes = class ∷ []; body = body }
+
+-- applicable are those above the query's class, of the query's selector alone
+both_are_applicable :
+    applicable (program_of diamond_graph (defined 3 (A ∷ []) 50 (defined f (D ∷ []) 30 diamond_definitions))) (asks f B)
+    ≡ at f B 10 ∷ []
+both_are_applicable = refl
+
+all_three_are_applicable : applicable (program_of diamond_graph (defined f (A ∷ []) 5 diamond_definitions)) (asks f D)
+    ≡ at f A 5 ∷ at f B 10 ∷ at f C 20 ∷ []
+all_three_are_applicable = refl
+
+-- a definition is more specific than one above it, and not than itself, one beside it or one below it
+lower_is_more_specific : is_more_specific diamond_graph.links (at f D 30) (at f A 5) ≡ true
+lower_is_more_specific = refl
+
+not_than_itself : is_more_specific diamond_graph.links (at f D 30) (at f D 30) ≡ false
+not_than_itself = refl
+
+not_than_its_neighbour : is_more_specific diamond_graph.links (at f B 10) (at f C 20) ≡ false
+not_than_its_neighbour = refl
+
+not_than_a_lower : is_more_specific diamond_graph.links (at f A 5) (at f D 30) ≡ false
+not_than_a_lower = refl
+
+-- minimal are those that have none more specific
+two_are_minimal : minimal diamond_graph.links (at f A 5 ∷ at f B 10 ∷ at f C 20 ∷ []) ≡ at f B 10 ∷ at f C 20 ∷ []
+two_are_minimal = refl
+
+one_is_minimal : minimal diamond_graph.links (at f A 5 ∷ at f B 10 ∷ at f C 20 ∷ at f D 30 ∷ []) ≡ at f D 30 ∷ []
+one_is_minimal = refl
+
+-- none, one and two
+by_none : answer_by [] ≡ NotUnderstood
+by_none = refl
+
+by_one : answer_by (at f D 30 ∷ []) ≡ Method 30
+by_one = refl
+
+by_two : answer_by (at f B 10 ∷ at f C 10 ∷ []) ≡ Ambiguous
+by_two = refl
+
+-- the answer doesn't ask whether the selector and the classes are live
+answer_of_the_dead : answer diamond (asks f 9) ≡ NotUnderstood
+answer_of_the_dead = refl
+
+-- a cell is the answer, and not understood where the reply has none
+cell_of_an_answer : cell diamond (asks f D) ≡ Ambiguous
+cell_of_an_answer = refl
+
+cell_of_a_method : cell diamond (asks f B) ≡ Method 10
+cell_of_a_method = refl
+
+cell_of_another_arity : cell diamond (asks_two f B B) ≡ NotUnderstood
+cell_of_another_arity = refl
+
 -- Two arguments: rocks and ships are things, and collide is defined at a thing and a ship, and at a ship and a thing.
 abbrev thing : ℕ
 thing = 0
@@ -119,6 +194,13 @@ small = record {
 second_class : reply small (asks_two 5 0 9) ≡ NoClass 2
 second_class = refl
 
+-- places are counted on from the given one, and all that are live have none
+counted_on : first_dead small.graph 3 (0 ∷ 0 ∷ 7 ∷ 9 ∷ []) ≡ Some 5
+counted_on = refl
+
+none_dead : first_dead small.graph 1 (0 ∷ 0 ∷ []) ≡ None
+none_dead = refl
+
 -- neither is, and the first place is told
 first_of_two : reply small (asks_two 5 9 9) ≡ NoClass 1
 first_of_two = refl
@@ -143,3 +225,29 @@ then_arity = refl
 
 then_classes : query_order (asks_two 1 3 9) (asks_two 1 4 0) ≡ Less
 then_classes = refl
+
+same_in_all : query_order (asks_two 1 3 9) (asks_two 1 3 9) ≡ Equal
+same_in_all = refl
+
+-- The same query has the same selector and the same classes.
+is_same : is_same_query (asks_two 1 3 9) (asks_two 1 3 9) ≡ true
+is_same = refl
+
+of_another_selector : is_same_query (asks 1 3) (asks 2 3) ≡ false
+of_another_selector = refl
+
+of_more_classes : is_same_query (asks 1 3) (asks_two 1 3 0) ≡ false
+of_more_classes = refl
+
+of_other_classes : is_same_query (asks_two 1 3 9) (asks_two 1 9 3) ≡ false
+of_other_classes = refl
+
+arity_is_two : arity_of_query (asks_two 1 3 9) ≡ 2
+arity_is_two = refl
+
+-- Its classes are kept in the first of four places.
+kept_in_front : pad (3 ∷ 9 ∷ []) ≡ 3 ∷ 9 ∷ 0 ∷ 0 ∷ []
+kept_in_front = refl
+
+kept_in_all : pad (3 ∷ 9 ∷ 0 ∷ 4 ∷ []) ≡ 3 ∷ 9 ∷ 0 ∷ 4 ∷ []
+kept_in_all = refl

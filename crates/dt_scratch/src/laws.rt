@@ -1,5 +1,7 @@
-ghost use Rattle.dt_scratch.specs.Laws.{OthersKeepTheirReply, TopSeesItself};
+ghost use Rattle.dt_scratch.specs.Laws.{LowestAnswers, MethodsAreLowest, NotUnderstoodWhereNone, OrderIsFree, OtherSelectorsKeepTheirReply, OthersKeepTheirReply, OthersKeepTheirReplyWithout, TopSeesItself};
 
+use crate::specificity::law_of_specificity;
+use dt_definitions::Program;
 use dt_graph::below_is_an_order;
 
 /// Classes that are below no others see only the definition at these very classes.
@@ -9,8 +11,28 @@ pub fn top_sees_itself()
     below_is_an_order();
 }
 
-/// A definition, new or replaced, changes no reply to a query whose classes aren't all below those of the
-/// definition.
+/// A definition that comes, is replaced or goes changes no reply to a query whose selector is another or whose
+/// classes aren't all below those of the definition.
 pub fn others_keep_their_reply()
-    ensures { OthersKeepTheirReply }
+    ensures defined { OthersKeepTheirReply }
+    ensures of_others { OtherSelectorsKeepTheirReply }
+    ensures undefined { OthersKeepTheirReplyWithout }
 {}
+
+/// The order in which the definitions are listed changes no reply.
+pub fn order_is_free()
+    ensures { OrderIsFree }
+{}
+
+/// The answers of a program by the lowest applicable definition: the one that is at or below each that is applicable,
+/// in every place. A method is answered exactly where there is one, and it is the method of that one; not understood
+/// is answered exactly where no definition is applicable, and so ambiguous in all other cases.
+pub fn law_of_answers(program: &Program)
+    ensures method { MethodsAreLowest program.now }
+    ensures lowest { LowestAnswers program.now }
+    ensures none { NotUnderstoodWhereNone program.now }
+{
+    program.law();
+    law_of_specificity(program.graph());
+    below_is_an_order();
+}

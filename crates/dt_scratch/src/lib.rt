@@ -9,10 +9,14 @@ mod query;
 mod reply;
 mod specificity;
 
-pub use laws::{others_keep_their_reply, top_sees_itself};
+pub use laws::{law_of_answers, order_is_free, others_keep_their_reply, top_sees_itself};
 pub use look_up::resolve;
 pub use query::Query;
 pub use reply::{Answer, Change, Reply};
 
+#[cfg(test)]
+mod example;
+#[cfg(test)]
+mod second_look_up;
 #[cfg(test)]
 mod tests;

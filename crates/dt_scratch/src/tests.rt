@@ -19,15 +19,15 @@ enum Line {
     Call(u16, &'static [u16]),
 }
 
-fn class(number: u16) -> ClassNo {
+pub(crate) fn class(number: u16) -> ClassNo {
     ClassNo::new(number).unwrap_or_default()
 }
 
-fn selector(number: u16) -> SelNo {
+pub(crate) fn selector(number: u16) -> SelNo {
     SelNo::new(number).unwrap_or_default()
 }
 
-fn classes(rt: &HostRuntime, numbers: &[u16]) -> Result<Vec<ClassNo>, Fail> {
+pub(crate) fn classes(rt: &HostRuntime, numbers: &[u16]) -> Result<Vec<ClassNo>, Fail> {
     let mut listed = Vec::new(rt.alloc());
     for number in numbers {
         listed.push(class(*number))?;
@@ -35,7 +35,7 @@ fn classes(rt: &HostRuntime, numbers: &[u16]) -> Result<Vec<ClassNo>, Fail> {
     Ok(listed)
 }
 
-fn tuple(rt: &HostRuntime, numbers: &[u16]) -> Result<Tuple, Fail> {
+pub(crate) fn tuple(rt: &HostRuntime, numbers: &[u16]) -> Result<Tuple, Fail> {
     Ok(Tuple::new(&classes(rt, numbers)?).ok_or("no tuple")?)
 }
 
