@@ -1,5 +1,5 @@
 -- What a reader that is inside a root can rest on.
-use Rattle.std.proofs.Common.{◌≡◌, ℕ, List, sym, subst}
+use Rattle.std.proofs.Common.{◌≡◌, ℕ, ◌<◌, Bool, true, false, nat_lt, cond, List, [], ◌∷◌, ◌++◌, length, refl, sym, subst, ap, ◌∙◌, arith, ltb-true, ltb-false, get_or-set_same}
 use Rattle.dt_pages.specs.Reading.{Reading, Reaches, levels}
 use Rattle.dt_pages.proofs.Readings.{meets_other}
 use Rattle.dt_gate.specs.declared.event.Event.TheVariants.{Read, Fill}
@@ -7,15 +7,17 @@ use Rattle.dt_gate.specs.declared.event.ReadWord.{ReadWord}
 use Rattle.dt_gate.specs.declared.event.ReadWord.TheVariants.{Version, Top, Page}
 use Rattle.dt_gate.specs.declared.gate.Frozen.{Frozen}
 use Rattle.dt_gate.specs.declared.gate.Gate.{Gate}
-use Rattle.dt_gate.specs.declared.gate.Stage.TheVariants.{In}
-use Rattle.dt_gate.specs.Gate.{Numbers, pages_of, seat_at}
-use Rattle.dt_gate.specs.Events.{history_of, IsFrozenWord, IsAllowed}
+use Rattle.dt_gate.specs.declared.gate.Seat.{Seat}
+use Rattle.dt_gate.specs.declared.gate.Stage.TheVariants.{Out, Near, In}
+use Rattle.dt_gate.specs.Gate.{Numbers, pages_of, seat_at, spent}
+use Rattle.dt_gate.specs.Events.{history_of, with_seat, after_look, IsFrozenWord, IsAllowed}
 use Rattle.dt_gate.specs.declared.event.Holder.{Holder}
 use Rattle.dt_gate.specs.declared.event.Holder.TheVariants.{Author, Reader}
 use Rattle.dt_gate.specs.Sound.{BothArePrefixes, WordsAreFrozen}
 use Rattle.dt_gate.specs.Laws.{joined_of}
-use Rattle.dt_gate.specs.Readers.{frozen_word, word_now}
+use Rattle.dt_gate.specs.Readers.{frozen_word, word_now, LookDecides}
 use Rattle.dt_gate.proofs.Kept.{Kept}
+use Rattle.dt_gate.proofs.Seats.{seat_here}
 use Rattle.dt_gate.proofs.CountedRoots.{inside_is_live}
 
 module _ {M E : Type 0} (shows : Reading → List E → Type 0) (numbers : Numbers) where
@@ -41,3 +43,28 @@ module _ {M E : Type 0} (shows : Reading → List E → Type 0) (numbers : Numbe
   pub tell_teaches : (gate : Gate M E) (taker : Holder) → Kept shows numbers gate → BothArePrefixes (joined_of gate taker) (history_of gate taker)
   tell_teaches gate Author kept = kept.shown.prefixes.joined_by_the_author
   tell_teaches gate (Reader seat) kept = kept.shown.prefixes.joined_by_a_seat seat
+
+module _ {M E : Type 0} (numbers : Numbers) where
+  pub look_decides : (gate : Gate M E) (seat : ℕ) → (seat_at gate seat).stage ≡ Out
+      → LookDecides numbers gate (with_seat gate seat (after_look numbers gate (seat_at gate seat))) seat
+  look_decides gate seat out = go (nat_lt gate.entries numbers.entries) refl
+    where
+      near : Seat M E
+      near = record (seat_at gate seat) { stage = Near }
+
+      worn : Seat M E
+      worn = record (seat_at gate seat) { history = gate.history; worn = (seat_at gate seat).worn ++ (length gate.history, gate.entries) ∷ [] }
+
+      found : seat_at (with_seat gate seat (after_look numbers gate (seat_at gate seat))) seat ≡ after_look numbers gate (seat_at gate seat)
+      found = get_or-set_same gate.seats seat (after_look numbers gate (seat_at gate seat)) spent (seat_here gate seat Out out tt)
+
+      go : (b : Bool) → nat_lt gate.entries numbers.entries ≡ b
+          → LookDecides numbers gate (with_seat gate seat (after_look numbers gate (seat_at gate seat))) seat
+      go true e = record {
+        near = λ below. found ∙ ap (λ b. cond b near worn) e;
+        worn = λ reached. let below = ltb-true gate.entries numbers.entries e in absurd (omega arith);
+      }
+      go false e = record {
+        near = λ below. let reached = ltb-false gate.entries numbers.entries e in absurd (omega arith);
+        worn = λ reached. found ∙ ap (λ b. cond b near worn) e;
+      }

@@ -1,15 +1,17 @@
 -- Runs, worked out.
-use Rattle.std.specs.Prelude.{◌≡◌, ℕ, List, [], ◌∷◌, ◌++◌, length}
+use Rattle.std.specs.Prelude.{◌≡◌, ℕ, List, [], ◌∷◌, ◌++◌, length, None, refl}
 use Rattle.dt_pages.specs.Reading.{Reading}
 use Rattle.dt_gate.specs.declared.event.Event.{Event}
-use Rattle.dt_gate.specs.declared.event.Event.TheVariants.{Look, Enter, Read, Leave, Fill, Publish, Poll, SeatOut, NoteOut, SeatBack, NoteBack, Tell}
+use Rattle.dt_gate.specs.declared.event.Event.TheVariants.{Look, Enter, Read, Leave, Fill, Lay, Publish, Poll, SeatOut, NoteOut, SeatBack, NoteBack, Tell}
 use Rattle.dt_gate.specs.declared.event.Holder.TheVariants.{Author, Reader}
 use Rattle.dt_gate.specs.declared.event.ReadWord.TheVariants.{Top, Page}
+use Rattle.dt_gate.specs.declared.event.RecordWord.TheVariants as laid
 use Rattle.dt_gate.specs.declared.gate.Gate.{Gate}
 use Rattle.dt_gate.specs.declared.gate.Stage.TheVariants.{Out, Spent}
 use Rattle.dt_gate.specs.declared.gate.Standing.TheVariants.{Free, Now, Old}
 use Rattle.dt_gate.specs.Gate.{Numbers, limits, root_at, seat_at, fresh}
 use Rattle.dt_gate.specs.Readers.{word_now}
+use Rattle.dt_gate.specs.Events.{IsAllowed, longer}
 use Rattle.dt_gate.specs.Runs.{after, AreAllowed}
 use Rattle.dt_gate.specs.WrongMachines.{small, start, anything, laying, one_inside_an_old_root}
 
@@ -95,3 +97,69 @@ pub record SeatIsTakenBack : Type 0 where
   pub out : (after small start given_back).out ≡ 0
   pub taken : (after small start given_back).taken ≡ (0 ∷ []) ∷ []
   pub worn : (after small start given_back).worn ≡ ((0, 1) ∷ []) ∷ []
+
+-- ---- one event at a time
+
+-- a root is laid and published
+abbrev published : List (Event ℕ ℕ)
+published = laying 0 ++ Publish 1 7 ∷ []
+
+no_entry_of_the_new_version : (after small start published).entries ≡ 0
+no_entry_of_the_new_version = refl
+
+-- a root that was published must be laid anew before it is published again
+what_was_laid_is_used_up : (root_at (after small start published) 1).laid.exits ≡ None
+what_was_laid_is_used_up = refl
+
+a_root_that_was_not_laid : IsAllowed anything small start (Publish 1 7) → ⊥
+a_root_that_was_not_laid allowed = let no_exit = allowed.no_exit in cc
+
+a_seat_starts_with_the_history_of_the_author : (seat_at (after small start (published ++ SeatOut ∷ [])) 0).history ≡ 7 ∷ []
+a_seat_starts_with_the_history_of_the_author = refl
+
+the_author_joins_its_own_history_and_the_seats :
+    (after small start (published ++ SeatOut ∷ SeatBack 0 ∷ [])).joined ≡ (7 ∷ [], 7 ∷ [])
+the_author_joins_its_own_history_and_the_seats = refl
+
+a_seat_that_was_given_back_is_blank : (seat_at (after small start given_back) 0).entered ≡ []
+a_seat_that_was_given_back_is_blank = refl
+
+one_root_is_held : (after small start polled_held).sweep ≡ 1
+one_root_is_held = refl
+
+no_root_is_held_any_more : (after small start polled_free).held ≡ []
+no_root_is_held_any_more = refl
+
+the_longer_history : longer {E = ℕ} (1 ∷ 2 ∷ []) (1 ∷ []) ≡ 1 ∷ 2 ∷ []
+the_longer_history = refl
+
+-- ---- two roots are held in one sweep
+
+abbrev two_readers : Numbers
+two_readers = limits 2 16 2
+
+-- each of two readers is inside a root of its own, both roots are old, and both are polled
+abbrev two_inside : List (Event ℕ ℕ)
+two_inside = SeatOut ∷ SeatOut ∷ Look 0 ∷ Enter 0 ∷ published ++ Look 1 ∷ Enter 1
+    ∷ Lay 2 laid.Exits 0 ∷ Lay 2 laid.Version 2 ∷ Lay 2 laid.Top 0 ∷ Publish 2 8 ∷ Poll 0 ∷ Poll 1 ∷ []
+
+both_are_held : (after two_readers (fresh {M = ℕ} two_readers) two_inside).held ≡ 0 ∷ 1 ∷ []
+both_are_held = refl
+
+as_many_as_readers : (after two_readers (fresh {M = ℕ} two_readers) two_inside).sweep ≡ 2
+as_many_as_readers = refl
+
+-- ---- worn by another reader
+
+abbrev one_entry : Numbers
+one_entry = limits 2 16 1
+
+-- a reader uses up the one entry of version 1, and another looks for the first time
+abbrev worn_at_first : List (Event ℕ ℕ)
+worn_at_first = SeatOut ∷ SeatOut ∷ published ++ Look 1 ∷ Enter 1 ∷ Look 0 ∷ []
+
+the_worn_look : (seat_at (after one_entry (fresh {M = ℕ} one_entry) worn_at_first) 0).worn ≡ (1, 1) ∷ []
+the_worn_look = refl
+
+it_has_seen_the_version : (seat_at (after one_entry (fresh {M = ℕ} one_entry) worn_at_first) 0).history ≡ 7 ∷ []
+it_has_seen_the_version = refl

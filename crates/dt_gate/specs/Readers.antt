@@ -1,15 +1,15 @@
 -- What a reader that is inside a root can rest on.
-use Rattle.std.specs.Prelude.{◌≡◌, ℕ, List}
+use Rattle.std.specs.Prelude.{◌≡◌, ℕ, ◌<◌, ◌≤◌, List, [], ◌∷◌, ◌++◌, length}
 use Rattle.dt_pages.specs.Reading.{Reading, Reaches}
-use Rattle.dt_gate.specs.declared.event.Event.TheVariants.{Read, Fill, Lay}
+use Rattle.dt_gate.specs.declared.event.Event.TheVariants.{Look, Read, Fill, Lay}
 use Rattle.dt_gate.specs.declared.event.ReadWord.{ReadWord}
 use Rattle.dt_gate.specs.declared.event.ReadWord.TheVariants.{Version, Top, Page}
 use Rattle.dt_gate.specs.declared.event.RecordWord.{RecordWord}
 use Rattle.dt_gate.specs.declared.gate.Frozen.{Frozen}
 use Rattle.dt_gate.specs.declared.gate.Gate.{Gate}
-use Rattle.dt_gate.specs.declared.gate.Stage.TheVariants.{In}
+use Rattle.dt_gate.specs.declared.gate.Stage.TheVariants.{Out, Near, In}
 use Rattle.dt_gate.specs.Gate.{Numbers, pages_of, root_at, seat_at}
-use Rattle.dt_gate.specs.Events.{IsAllowed}
+use Rattle.dt_gate.specs.Events.{IsAllowed, step}
 use Rattle.dt_gate.specs.Counts.{inside}
 use Rattle.dt_gate.specs.Runs.{IsReached}
 
@@ -45,3 +45,17 @@ module _ (M : Type 0) {E : Type 0} (shows : Reading → List E → Type 0) (numb
   NoLayUnderAReader = (gate : Gate M E) (root : ℕ) (word : RecordWord) (value : ℕ)
       → IsReached shows numbers gate
       → IsAllowed shows numbers gate (Lay root word value) → inside gate root ≡ 0
+
+module _ {M E : Type 0} where
+  -- what a look finds: below the limit the seat is near, and at the limit it has a worn look more
+  pub record LookDecides (numbers : Numbers) (gate next : Gate M E) (seat : ℕ) : Type 0 where
+    pub near : gate.entries < numbers.entries → seat_at next seat ≡ record (seat_at gate seat) { stage = Near }
+    pub worn : numbers.entries ≤ gate.entries → seat_at next seat ≡ record (seat_at gate seat) {
+      history = gate.history;
+      worn = (seat_at gate seat).worn ++ (length gate.history, gate.entries) ∷ [];
+    }
+
+-- a look of a seat that is out decides so
+abbrev pub LooksDecide : (M E : Type 0) → Numbers → Type 0
+LooksDecide M E numbers = (gate : Gate M E) (seat : ℕ) → (seat_at gate seat).stage ≡ Out
+    → LookDecides numbers gate (step numbers gate (Look seat)) seat

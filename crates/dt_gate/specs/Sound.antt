@@ -75,7 +75,8 @@ module _ {M E : Type 0} where
     pub inside_is_safe : (seat root : ℕ) (frozen : Frozen) → (seat_at gate seat).stage ≡ In root frozen
         → InsideIsSafe shows gate (seat_at gate seat) root frozen
 
-  -- a sweep leaves no more roots than readers were out
+  -- in a sweep, the roots found held and the seats inside old roots not found held are together at most its count,
+  -- which is at most the readers; so a sweep leaves no more roots than readers were out
   pub record SweepIsBounded (numbers : Numbers) (gate : Gate M E) : Type 0 where
     pub held : length gate.held + inside_unswept gate ≤ gate.sweep
     pub count : gate.sweep ≤ numbers.readers

@@ -11,7 +11,7 @@ use Rattle.dt_gate.specs.Gate.{Numbers, pages_of, root_at, seat_at}
 use Rattle.dt_gate.specs.Events.{IsAllowed, step}
 use Rattle.dt_gate.specs.Runs.{IsReached}
 
--- the root has the version, the top page and the standing that it had
+-- the root has the version, the top page, the standing and what was laid that it had
 pub record ButExits (old new : Root) : Type 0 where
   pub version : new.version ≡ old.version
   pub top : new.top ≡ old.top

@@ -3,7 +3,7 @@ ghost use Rattle.dt_pages.specs.Reading.{blank};
 ghost use Rattle.dt_gate.specs.Gate.{limits};
 ghost use Rattle.dt_gate.specs.Runs.{InRange, EveryRunIsSound};
 ghost use Rattle.dt_gate.specs.Stays.{EventsLeaveTheRest};
-ghost use Rattle.dt_gate.specs.Readers.{ReadsAreFrozen, NoFillUnderAReader, NoLayUnderAReader};
+ghost use Rattle.dt_gate.specs.Readers.{ReadsAreFrozen, NoFillUnderAReader, NoLayUnderAReader, LooksDecide};
 ghost use Rattle.dt_gate.specs.Sweeps.{PollsDecide, SweepsLeaveRoom};
 ghost use Rattle.dt_gate.specs.Laws.{ReachedIsSound, FreshIsReached, RunsGoOn, EntriesStayBounded, SizesStay, TellTeaches, WornLooksWereTaken};
 
@@ -61,6 +61,12 @@ pub fn nothing_changes_under_a_reader<M: Meaning>(readers: u16, pages: u32, entr
     ensures reads { ReadsAreFrozen M M.shows (limits readers pages entries) }
     ensures pages { NoFillUnderAReader M M.shows (limits readers pages entries) }
     ensures roots { NoLayUnderAReader M M.shows (limits readers pages entries) }
+{}
+
+/// A look lets a seat that is out come near exactly where the entries are below the limit; else it stays out, and keeps
+/// the version and the entries.
+pub fn a_look_decides<M: Meaning>(readers: u16, pages: u32, entries: u64)
+    ensures { LooksDecide M M.Entry (limits readers pages entries) }
 {}
 
 /// A poll frees an old root exactly where all that entered have left.

@@ -1,3 +1,4 @@
-pub mod Readings
+pub mod Addresses
 pub mod Nodes
+pub mod Readings
 pub mod SixPages

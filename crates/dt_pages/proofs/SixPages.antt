@@ -1,10 +1,11 @@
 -- Six pages show an image of three words.
-use Rattle.std.proofs.Common.{◌≡◌, ◌≢◌, ℕ, ◌/◌, ◌%◌, ◌^◌, ◌<◌, ◌≤◌, ◌==◌, nat_lt, Bool, true, false, cond, List, [], ◌∷◌, unwrap_or, Some, None, refl, sym, ap, ◌∙◌, arith, eq-eqb, ne_eqb, ltb-true, ltb-false}
+use Rattle.std.proofs.Common.{◌≡◌, ◌≢◌, ℕ, ◌/◌, ◌%◌, ◌^◌, ◌<◌, ◌≤◌, ◌==◌, nat_lt, Bool, true, false, cond, List, [], ◌∷◌, unwrap_or, Some, None, refl, sym, ap, ◌∙◌, arith, eq-eqb, ne_eqb, ltb-true, ltb-false, inl, inr}
 use mathlib.Core.Path.{fun_ext}
 use native.Mathlib.Decide.{ℕ_discrete}
 use Rattle.std.specs.FinMap.{get-from_sorted}
 use Rattle.std.specs.Ordering.{nat_cmp}
-use Rattle.dt_pages.specs.Reading.{levels, addresses, follow, reading}
+use Rattle.std.proofs.lemmas.Bool.Decides.{nat_tests}
+use Rattle.dt_pages.specs.Reading.{levels, addresses, follow, reading, Meets, Reaches}
 use Rattle.dt_pages.specs.Image.{look_up}
 use Rattle.dt_pages.proofs.Nodes.{same_test}
 use Rattle.dt_pages.specs.Laws.{three_words, six_pages}
@@ -85,3 +86,22 @@ shown = fun_ext λ address. go address (nat_lt address addresses) refl ∙ sym (
     go : (address : ℕ) (inside : Bool) → nat_lt address addresses ≡ inside → cond inside (follow six_pages levels 1 address) 0 ≡ chosen address
     go address true is = followed address (ltb-true address addresses is)
     go address false is = let past : addresses ≤ address = ltb-false address addresses is in sym (chosen_other address (omega (arith, past)) (omega (arith, past)) (omega (arith, past)))
+
+-- the words of the upper three pages are numbers of the six, or 0
+top_word : (at : ℕ) → six_pages 1 at < 4
+top_word at = grind (arith, nat_tests)
+
+upper_word : (found at : ℕ) → found < 4 → six_pages found at ≤ 6
+upper_word found at small = grind (arith, nat_tests)
+
+pub only_six : (page : ℕ) → Reaches six_pages 1 page → page ≤ 6
+only_six page (inl same) = omega (arith, same)
+only_six page (inr way) = below (six_pages 1 way.0) (top_word way.0) way.2
+  where
+    lowest : (found : ℕ) → found ≤ 6 → Meets six_pages 1 found page → page ≤ 6
+    lowest found small (inl same) = omega (arith, same, small)
+    lowest found small (inr way) = absurd way.2
+
+    below : (found : ℕ) → found < 4 → Meets six_pages 2 found page → page ≤ 6
+    below found small (inl same) = omega (arith, same, small)
+    below found small (inr way) = lowest (six_pages found way.0) (upper_word found way.0 small) way.2

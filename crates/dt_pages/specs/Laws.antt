@@ -1,8 +1,8 @@
 -- What holds of readings and images, and examples.
-use Rattle.std.specs.Prelude.{true, ◌≢◌, ◌≡◌, ℕ, ◌<◌, ◌==◌, ◌↔◌, if◌then◌else◌, ◌&&◌, List, [], ◌∷◌, Any, Contains}
+use Rattle.std.specs.Prelude.{true, ◌≢◌, ◌≡◌, ℕ, ◌<◌, ◌≤◌, ◌^◌, ◌==◌, ◌↔◌, if◌then◌else◌, ◌&&◌, List, [], ◌∷◌, Some, Any, Contains}
 use Rattle.std.specs.List.Sorted.{IsStrictlyIncreasing}
-use Rattle.std.specs.FinMap.{empty, entries, from_sorted}
-use Rattle.dt_pages.specs.Reading.{Pages, blank, reading, Reaches}
+use Rattle.std.specs.FinMap.{empty, entries, from_sorted, get}
+use Rattle.dt_pages.specs.Reading.{Pages, blank, levels, addresses, reading, Reaches}
 use Rattle.dt_pages.specs.Image.{Image, IsImage, place, used_places, differs_below, look_up, nodes, need}
 
 -- the words of the page are the same in both
@@ -59,6 +59,21 @@ abbrev pub PageZeroReachesItself : Type 0
 PageZeroReachesItself = (pages : Pages) → ((at : ℕ) → at < 512 → pages 0 at ≡ 0)
     → (page : ℕ) → Reaches pages 0 page → page ≡ 0
 
+-- so many levels of pages of 512 words stand over the addresses, and over no more
+abbrev pub LevelsHoldAddresses : Type 0
+LevelsHoldAddresses = addresses ≡ 512 ^ levels
+
+-- what is set in an image is set at an address, and isn't 0
+abbrev pub ImagesSetWords : Type 0
+ImagesSetWords = (image : Image) → IsImage image → (address word : ℕ) → get image address ≡ Some word
+    → (address < addresses) × (word ≢ 0)
+
+-- past the last address nothing is read, neither in a tree of pages nor in an image
+abbrev pub NothingIsPastTheLast : Type 0
+NothingIsPastTheLast = (address : ℕ) → addresses ≤ address
+    → ((pages : Pages) (top : ℕ) → reading pages top address ≡ 0)
+    × ((image : Image) → IsImage image → look_up image address ≡ 0)
+
 -- an image with three words
 abbrev pub three_words : Image
 three_words = from_sorted ((0, 1) ∷ (4096, 1) ∷ (16777216, 4294967298) ∷ [])
@@ -78,11 +93,17 @@ six_pages = pages_with ((1, 0, 2) ∷ (1, 64, 3) ∷ (2, 0, 4) ∷ (2, 8, 5) ∷
     ∷ (4, 0, 1) ∷ (5, 0, 1) ∷ (6, 0, 4294967298) ∷ [])
 
 -- the image has six nodes, which are all new beside the empty image, and none of them beside itself;
--- a change of its last word needs one page of each level; and the pages show the image
+-- a change of its last word needs one page of each level; a node that loses its words needs none;
+-- and the pages show the image, and 0 past the last address
 pub record SixPages : Type 0 where
   pub is_an_image : IsImage three_words
   pub has_six_nodes : nodes three_words ≡ 6
   pub all_are_new : need empty three_words ≡ 6
   pub none_is_new : need three_words three_words ≡ 0
   pub one_of_each_level : need three_words last_changed ≡ 3
+  pub none_where_words_go : need three_words empty ≡ 0
   pub they_show_it : reading six_pages 1 ≡ look_up three_words
+  pub past_the_last_address : reading six_pages 1 addresses ≡ 0
+  pub a_word_of_0_is_not_set : IsImage (from_sorted ((0, 0) ∷ [])) → ⊥
+  pub nothing_is_set_past_the_last_address : IsImage (from_sorted ((134217728, 1) ∷ [])) → ⊥
+  pub no_other_is_reached : (page : ℕ) → Reaches six_pages 1 page → page ≤ 6

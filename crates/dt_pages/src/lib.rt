@@ -1,7 +1,7 @@
 //! What a tree of pages shows, and what it takes to keep it.
 #![tactic(auto)]
 
-ghost use Rattle.dt_pages.specs.Laws.{EmptyImageIsBlank, SameReading, SameReach, TopIsReached, PageZeroIsBlank, PageZeroReachesItself, NodesAreCounted, DifferencesAreSeen, SixPages};
+ghost use Rattle.dt_pages.specs.Laws.{EmptyImageIsBlank, SameReading, SameReach, TopIsReached, PageZeroIsBlank, PageZeroReachesItself, NodesAreCounted, DifferencesAreSeen, LevelsHoldAddresses, ImagesSetWords, NothingIsPastTheLast, SixPages};
 
 /// A reading depends on the words of the pages that its top page reaches, and on no other.
 pub fn reached_pages_decide()
@@ -21,6 +21,14 @@ pub fn page_zero_is_empty()
 pub fn nodes_are_counted_once()
     ensures places { NodesAreCounted }
     ensures differences { DifferencesAreSeen }
+{}
+
+/// The levels of a tree hold as many words as there are addresses, an image sets words other than 0 at these alone, and
+/// past the last of them both read as 0.
+pub fn addresses_are_held()
+    ensures levels { LevelsHoldAddresses }
+    ensures images { ImagesSetWords }
+    ensures past { NothingIsPastTheLast }
 {}
 
 /// An example: an image of three words takes six pages, and they show it.
