@@ -1,5 +1,5 @@
 -- The laws of first scripts, from what performing logs.
-use Rattle.std.proofs.Common.{◌≡◌, ℕ, ◌+◌, ◌≤◌, List, [], ◌∷◌, ◌++◌, length, take, map, Option, Some, None, refl, sym, ap, ◌∙◌, subst, arith}
+use Rattle.std.proofs.Common.{◌≡◌, ℕ, ◌+◌, ◌≤◌, List, [], ◌∷◌, ◌++◌, length, take, Option, Some, None, refl, sym, ap, ◌∙◌, subst, arith}
 use Rattle.std.proofs.lemmas.List.{append-nil}
 use Rattle.std.proofs.Math.Seq.{take-length}
 use Rattle.dt_definitions.specs.Program.{Program}
@@ -7,17 +7,18 @@ use Rattle.dt_definitions.specs.Step.{after}
 use Rattle.dt_definitions.specs.declared.edit.Edit.{Edit}
 use Rattle.dt_scratch.specs.Query.{Query}
 use Rattle.dt_run.specs.Line.{Line}
-use Rattle.dt_run.specs.FirstScript.{IsFirstScript}
 use Rattle.dt_run.specs.Numbering.{empty_book, edits_from}
-use Rattle.dt_run.specs.Script.{single, one_phase, parts_of, script_of, calls_of}
+use Rattle.dt_run.specs.Script.{single, one_phase, parts_of, script_of, calls_of, names_of}
 use Rattle.dt_run.specs.Log.{Log, PhaseLog, PartLog}
 use Rattle.dt_run.specs.declared.log.EditLine.{EditLine}
 use Rattle.dt_run.specs.Outcome.{accepted, Outcome, PartsHaveShape, PartsAreAnswered, EditsStepFrom, AreNumberedFrom}
-use Rattle.dt_run.specs.Performing.{lines_from, history_from, part_logs, performed_log, call_line}
-use Rattle.dt_run.specs.FirstLaws.{AreFirstLines, AreFirstPhases, OnlyFourRefusals, OneOutcome}
+use Rattle.dt_run.specs.Performing.{lines_from, history_from, part_logs, performed_log}
+use Rattle.dt_run.specs.Text.{text_of}
+use Rattle.dt_run.specs.FirstLaws.{AreFirstLines, AreFirstPhases, OnlyFourRefusals, OneOutcome, OneRun}
 use Rattle.dt_run.proofs.Outcomes.{grown}
 use Rattle.dt_run.proofs.OneOutcome.{same_lines, same_calls}
 use Rattle.dt_run.proofs.FourRefusals.{first_script_lines}
+use Rattle.dt_run.proofs.NoScript.{same_script}
 
 abbrev History : Type 0
 History = List (List Edit)
@@ -81,3 +82,10 @@ pub one_outcome : OneOutcome
 one_outcome lines a b first second =
     is_performed (edits_from empty_book lines) (calls_of lines) a.phases a.last first
     ∙ sym (is_performed (edits_from empty_book lines) (calls_of lines) b.phases b.last second)
+
+-- the lines, the log and the text of a run follow from its bytes
+pub one_run : OneRun
+one_run bytes a b text other first second =
+    let lines : first.lines ≡ second.lines = same_script bytes first.lines second.lines first.script second.script in
+    let logs : a ≡ b = one_outcome first.lines a b first.outcome (subst (λ (l : List Line). Outcome (script_of l) b) (sym lines) second.outcome) in
+    (logs, first.printed ∙ ap (λ l. text_of (names_of l) a) lines ∙ ap (λ log. text_of (names_of second.lines) log) logs ∙ sym second.printed)

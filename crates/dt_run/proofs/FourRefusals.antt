@@ -1,8 +1,7 @@
 -- That a first script meets four refusals alone.
-use Rattle.std.proofs.Common.{◌≡◌, ◌==◌, ℕ, ◌+◌, ◌<◌, ◌≤◌, Bool, true, false, cond, not, ◌&&◌, nat_le, nat_lt, List, [], ◌∷◌, ◌++◌, length, Option, Some, None, Result, Ok, Err, refl, sym, ap, ◌∙◌, subst, arith}
+use Rattle.std.proofs.Common.{◌≡◌, ◌==◌, ℕ, ◌+◌, ◌<◌, ◌≤◌, Bool, true, false, cond, not, ◌&&◌, nat_le, nat_lt, List, [], ◌∷◌, ◌++◌, length, Option, Some, None, Ok, refl, sym, ap, ◌∙◌, subst, arith}
 use Rattle.std.specs.Prelude.{IfSome, find}
 use Rattle.std.specs.Option.{option_map, option_map_or}
-use Rattle.std.specs.List.{cons_option}
 use Rattle.std.proofs.lemmas.Bool.Decides.{nat_tests}
 use Rattle.dt_selectors.specs.Selectors.{Selector, arity_in, has_selector, place_selector}
 use Rattle.dt_graph.specs.Refusal.{cause_if, first_cause, ok_unless}
@@ -15,7 +14,7 @@ use Rattle.dt_definitions.specs.declared.edit.Edit.TheVariants.{AddClass, DropCl
 use Rattle.dt_definitions.specs.declared.why.Why.{Why}
 use Rattle.dt_definitions.specs.declared.why.Why.TheVariants as why
 use Rattle.dt_run.specs.Line.{Line, Header, Class, Subclass, Selector as SelectorLine, Define as DefineLine, Caller, Call, End}
-use Rattle.dt_run.specs.Numbering.{NameBook, book_after, edit_in, edits_from}
+use Rattle.dt_run.specs.Numbering.{NameBook, book_after, edits_from}
 use Rattle.dt_run.specs.Performing.{line_by, history_by, lines_from}
 use Rattle.dt_run.specs.FirstLaws.{IsFirstRefusal, AreFirstLines}
 use Rattle.dt_run.proofs.History.{after_from-snoc, stepped_one}

@@ -1,9 +1,9 @@
 -- How a history grows by an edit, and what the log of performing says of it.
-use Rattle.std.proofs.Common.{◌≡◌, ℕ, ◌+◌, ◌<◌, List, [], ◌∷◌, ◌++◌, length, take, Result, Ok, Err, refl, sym, ap, ◌∙◌, subst, arith, append_assoc, length-append, get_or, ◌≤◌, rules}
+use Rattle.std.proofs.Common.{◌≡◌, ℕ, ◌+◌, ◌<◌, List, [], ◌∷◌, ◌++◌, length, take, Ok, Err, refl, sym, ap, ◌∙◌, subst, arith, length-append, get_or, ◌≤◌}
 use Rattle.std.proofs.lemmas.List.{take_more}
 use Rattle.std.specs.Result.{result_unwrap_or}
 use Rattle.dt_definitions.specs.Program.{Program}
-use Rattle.dt_definitions.specs.Step.{step, step_from, step_batch, and_then, stepped, after, after_from, Refused as Refusal}
+use Rattle.dt_definitions.specs.Step.{step, step_from, and_then, stepped, after, after_from}
 use Rattle.dt_definitions.specs.declared.edit.Edit.{Edit}
 use Rattle.dt_definitions.specs.declared.why.Why.{Why}
 use Rattle.dt_run.specs.declared.log.EditLine.{EditLine}

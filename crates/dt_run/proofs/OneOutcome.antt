@@ -1,23 +1,20 @@
 -- That an outcome of one phase is what performing logs.
-use Rattle.std.proofs.Common.{◌≡◌, ℕ, ◌+◌, List, [], ◌∷◌, ◌++◌, length, take, map, Option, Some, None, Result, Ok, Err, refl, sym, ap, ◌∙◌, subst, arith, append_assoc, length-append}
+use Rattle.std.proofs.Common.{◌≡◌, ℕ, ◌+◌, List, [], ◌∷◌, ◌++◌, length, take, map, Result, Ok, Err, refl, sym, ap, ◌∙◌, subst, append_assoc, length-append}
 use Rattle.std.specs.Prelude.{IsOk}
-use Rattle.std.proofs.lemmas.List.{append-nil}
-use Rattle.std.proofs.Math.Seq.{take-append_seam, take-length}
 use Rattle.dt_definitions.specs.Program.{Program}
-use Rattle.dt_definitions.specs.Step.{step, step_from, step_batch, and_then, after, Refused as Refusal}
+use Rattle.dt_definitions.specs.Step.{step, step_batch, after, Refused as Refusal}
 use Rattle.dt_definitions.specs.declared.edit.Edit.{Edit}
 use Rattle.dt_definitions.specs.declared.why.Why.{Why}
 use Rattle.dt_scratch.specs.Query.{Query}
 use Rattle.dt_scratch.specs.Resolve.{reply}
-use Rattle.dt_run.specs.Script.{Part, single, one_phase, parts_of}
-use Rattle.dt_run.specs.Log.{Log, PhaseLog, PartLog}
-use Rattle.dt_run.specs.Outcome.{accepted, AreNumberedFrom, EditsStepFrom, CallsHaveLines, CallsAreAnswered, PartsHaveShape, PartsAreAnswered, Outcome}
+use Rattle.dt_run.specs.Script.{single}
+use Rattle.dt_run.specs.Outcome.{accepted, AreNumberedFrom, EditsStepFrom, CallsAreAnswered}
 use Rattle.dt_run.specs.declared.log.EditLine.{EditLine}
 use Rattle.dt_run.specs.declared.log.EditLine.TheVariants.{Accepted, Refused, VersionsFull, CellsFull, RowsFull, NoPages}
 use Rattle.dt_run.specs.declared.log.CallLine.{CallLine}
 use Rattle.dt_run.specs.declared.log.CallLine.TheVariants.{Called, CallWorn, PinnedAt, PinWorn, Unpinned}
-use Rattle.dt_run.specs.Performing.{line_by, edit_line, history_by, next_history, lines_from, history_from, call_line, part_logs, performed_log}
-use Rattle.dt_run.proofs.Outcomes.{before_it, step_one, grown}
+use Rattle.dt_run.specs.Performing.{line_by, edit_line, history_by, next_history, lines_from, call_line}
+use Rattle.dt_run.proofs.Outcomes.{before_it, step_one}
 
 abbrev History : Type 0
 History = List (List Edit)

@@ -1,5 +1,5 @@
 -- That what performing logs is an outcome of the script.
-use Rattle.std.proofs.Common.{◌≡◌, ℕ, ◌+◌, List, [], ◌∷◌, ◌++◌, length, take, map, Option, Some, None, Result, Ok, Err, refl, sym, ap, ◌∙◌, subst, arith, append_assoc, length-append, suc, rules}
+use Rattle.std.proofs.Common.{◌≡◌, ℕ, List, [], ◌∷◌, ◌++◌, length, take, map, Option, Some, None, Result, Ok, Err, refl, sym, ap, ◌∙◌, subst, arith, append_assoc, length-append, suc}
 use Rattle.std.proofs.lemmas.List.{append-nil}
 use Rattle.dt_scratch.specs.Resolve.{reply}
 use Rattle.std.specs.Prelude.{IsOk}
@@ -9,7 +9,7 @@ use Rattle.dt_definitions.specs.Step.{step, step_from, step_batch, and_then, aft
 use Rattle.dt_definitions.specs.declared.edit.Edit.{Edit}
 use Rattle.dt_definitions.specs.declared.why.Why.{Why}
 use Rattle.dt_scratch.specs.Query.{Query}
-use Rattle.dt_run.specs.Script.{Script, Phase, Part, single, one_phase, parts_of}
+use Rattle.dt_run.specs.Script.{single, one_phase, parts_of}
 use Rattle.dt_run.specs.Log.{Log, PhaseLog, PartLog}
 use Rattle.dt_run.specs.Outcome.{accepted, AreNumberedFrom, EditsStepFrom, CallsHaveLines, CallsAreAnswered, PartsHaveShape, PartsAreAnswered, Outcome}
 use Rattle.dt_run.specs.declared.log.EditLine.{EditLine}

@@ -1,9 +1,9 @@
 -- A first script is short: its bytes are far fewer than a script may have.
-use Rattle.std.proofs.Common.{◌≡◌, ℕ, ◌+◌, ◌*◌, ◌<◌, ◌≤◌, Bool, true, false, ◌&&◌, IsTrue, nat_le, List, [], ◌∷◌, ◌++◌, length, flat_map, codes, refl, sym, ap, ◌∙◌, arith, length-append}
-use Rattle.std.specs.List.{list_all, join_with_byte}
+use Rattle.std.proofs.Common.{◌≡◌, ℕ, ◌*◌, ◌≤◌, Bool, true, false, ◌&&◌, IsTrue, nat_le, List, [], ◌∷◌, ◌++◌, length, refl, ap, arith, length-append}
+use Rattle.std.specs.List.{list_all}
 use Rattle.std.proofs.lemmas.Bool.Decides.{nat_tests}
-use Rattle.dt_selectors.specs.Names.{is_name, is_name_byte}
-use Rattle.dt_run.specs.Line.{Line, Header, Class, Subclass, Selector, Define, Caller, Call, End, words_of, spelling, names_in, has_names}
+use Rattle.dt_selectors.specs.Names.{is_name}
+use Rattle.dt_run.specs.Line.{Line, Header, Class, Subclass, Selector, Define, Caller, Call, End, spelling, has_names}
 use Rattle.dt_run.specs.FirstScript.{IsFirstScript, text_of_lines}
 
 -- both sides of a test

@@ -1,4 +1,5 @@
--- Two laws of first scripts: which refusals they can meet, and that their outcome is determined.
+-- Laws of first scripts: which refusals they can meet, and that bytes determine their lines, their outcome and what
+-- is printed.
 use Rattle.std.specs.Prelude.{◌≡◌, ℕ, List, [], ◌∷◌}
 use Rattle.dt_definitions.specs.declared.why.Why.{Why}
 use Rattle.dt_definitions.specs.declared.why.Why.TheVariants.{ClassExists, ClassUnknown, SelectorExists, SelectorUnknown}
@@ -7,6 +8,7 @@ use Rattle.dt_run.specs.FirstScript.{IsFirstScript}
 use Rattle.dt_run.specs.Script.{script_of}
 use Rattle.dt_run.specs.Log.{Log, PhaseLog}
 use Rattle.dt_run.specs.Outcome.{Outcome}
+use Rattle.dt_run.specs.Run.{IsRunOf}
 use Rattle.dt_run.specs.declared.log.EditLine.{EditLine}
 use Rattle.dt_run.specs.declared.log.EditLine.TheVariants.{Accepted, Refused}
 
@@ -38,3 +40,12 @@ OnlyFourRefusals = (bytes : List ℕ) (lines : List Line) (log : Log)
 -- The outcome of a first script is determined.
 abbrev pub OneOutcome : Type 0
 OneOutcome = (lines : List Line) (a b : Log) → Outcome (script_of lines) a → Outcome (script_of lines) b → a ≡ b
+
+-- Bytes are the first script of one list of lines at most.
+abbrev pub OneScript : Type 0
+OneScript = (bytes : List ℕ) (a b : List Line) → IsFirstScript bytes a → IsFirstScript bytes b → a ≡ b
+
+-- The bytes of a first script determine the log and its text.
+abbrev pub OneRun : Type 0
+OneRun = (bytes : List ℕ) (a b : Log) (text other : List ℕ)
+    → IsRunOf bytes a text → IsRunOf bytes b other → (a ≡ b) × (text ≡ other)

@@ -1,4 +1,5 @@
 pub mod Outside
+pub mod InMemory
 pub mod Reading
 pub mod Putting
 pub mod Cut
@@ -14,9 +15,11 @@ pub mod Numbered
 pub mod InNumbers
 pub mod Log
 pub mod Outcome
+pub mod OutcomeExamples
 pub mod Performing
 pub mod Text
 pub mod Spaced
 pub mod Status
 pub mod Run
+pub mod TextExamples
 pub mod FirstLaws

@@ -1,13 +1,13 @@
 -- What a log says of a script: its shape, its versions, its edits and its calls.
-use Rattle.std.specs.Prelude.{◌≡◌, ℕ, ◌+◌, List, [], ◌∷◌, ◌++◌, take, length, Result, Ok, Err, IsOk}
-use Rattle.dt_definitions.specs.Step.{step_batch, after, Refused}
+use Rattle.std.specs.Prelude.{◌≡◌, ℕ, ◌+◌, List, [], ◌∷◌, ◌++◌, take, length, Err, IsOk}
+use Rattle.dt_definitions.specs.Step.{step_batch, after}
 use Rattle.dt_definitions.specs.declared.edit.Edit.{Edit}
 use Rattle.dt_scratch.specs.Query.{Query}
 use Rattle.dt_scratch.specs.Resolve.{reply}
 use Rattle.dt_run.specs.Script.{Script, Phase, Part}
 use Rattle.dt_run.specs.Log.{Log, PhaseLog, PartLog}
 use Rattle.dt_run.specs.declared.log.CallLine.{CallLine}
-use Rattle.dt_run.specs.declared.log.CallLine.TheVariants.{Called, CallWorn, PinnedAt, PinWorn, Unpinned}
+use Rattle.dt_run.specs.declared.log.CallLine.TheVariants.{Called}
 use Rattle.dt_run.specs.declared.log.EditLine.{EditLine}
 use Rattle.dt_run.specs.declared.log.EditLine.TheVariants.{Accepted, VersionsFull, CellsFull, RowsFull, NoPages}
 use Rattle.dt_run.specs.declared.log.EditLine.TheVariants as edit_line

@@ -6,7 +6,7 @@ use Rattle.dt_definitions.specs.declared.edit.Edit.{Edit}
 use Rattle.dt_definitions.specs.declared.why.Why.{Why}
 use Rattle.dt_scratch.specs.Query.{Query}
 use Rattle.dt_scratch.specs.Resolve.{reply}
-use Rattle.dt_run.specs.Log.{Log, PhaseLog, PartLog}
+use Rattle.dt_run.specs.Log.{Log, PartLog}
 use Rattle.dt_run.specs.declared.log.EditLine.{EditLine}
 use Rattle.dt_run.specs.declared.log.EditLine.TheVariants.{Accepted, Refused}
 use Rattle.dt_run.specs.declared.log.CallLine.{CallLine}

@@ -1,5 +1,5 @@
 -- What a sink took of a text, where it tells what it took.
-use Rattle.std.specs.Prelude.{◌≡◌, ℕ, ◌≤◌, List, length, take, Option}
+use Rattle.std.specs.Prelude.{ℕ, ◌≤◌, List, length, take, Option}
 use Rattle.std.specs.Io.KnownBytes.{Appends}
 
 -- known bytes grow by a prefix of the text

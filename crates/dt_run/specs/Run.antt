@@ -1,5 +1,5 @@
 -- What each ending of a run says of the words, of the source's bytes and of what the sink took.
-use Rattle.std.specs.Prelude.{◌≡◌, ℕ, ◌<◌, List, [], ◌∷◌, ◌++◌, length, codes, Option, None, Some, ◌⊎◌, IfSome, IsSome, IsSomeAnd}
+use Rattle.std.specs.Prelude.{◌≡◌, ℕ, ◌<◌, List, [], ◌∷◌, length, codes, Option, None, Some, ◌⊎◌, IfSome, IsSome, IsSomeAnd}
 use Rattle.std.specs.Io.KnownBytes.{Appends}
 use Rattle.dt_run.specs.Line.{Line}
 use Rattle.dt_run.specs.FirstScript.{IsFirstScript}
@@ -45,6 +45,10 @@ pub record IsRunOf (bytes : List ℕ) (log : Log) (text : List ℕ) : Type 0 whe
 pub record Told (before after : Option (List ℕ)) (faults_before faults_after : ℕ) (text : List ℕ) : Type 0 where
   pub prefix : AppendsPrefix before after text
   pub whole : (Rose faults_before faults_after → ⊥) → Appends before after text
+
+-- These bytes were read: where the source tells its bytes, they are all that it had left, and none is left now.
+abbrev pub WereRead : Option (List ℕ) → Option (List ℕ) → List ℕ → Type 0
+WereRead left rest bytes = IfSome left (λ told. (bytes ≡ told) × (rest ≡ Some []))
 
 -- Done: the bytes are a first script, the log that is handed back is an outcome of it, and the sink took its text.
 abbrev pub IsDone : List ℕ → Option (List ℕ) → Option (List ℕ) → Option Log → Type 0

@@ -23,7 +23,7 @@ mod turnstile;
 mod words;
 
 pub use arg_words::ArgWords;
-pub use first_laws::{one_outcome, only_four_refusals};
+pub use first_laws::{one_outcome, one_run, one_script, only_four_refusals};
 pub use log::{CallLine, EditLine, Log, PartLog, PhaseLog, Stamped};
 pub use run_script::{Ran, run};
 pub use status::Status;

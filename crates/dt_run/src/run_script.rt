@@ -5,7 +5,7 @@ ghost use Rattle.dt_run.specs.Reading.{LosesAtMost};
 ghost use Rattle.dt_run.specs.Putting.{AppendsPrefix};
 ghost use Rattle.dt_run.specs.Line as line;
 ghost use Rattle.dt_run.specs.FirstScript.{IsFirstScript};
-ghost use Rattle.dt_run.specs.Run.{run_words, usage_text, script_text, read_text, memory_text, IsNoScript, IsRunOf, Told, IsDone, IsCutShort, IsHanded};
+ghost use Rattle.dt_run.specs.Run.{run_words, usage_text, script_text, read_text, memory_text, IsNoScript, IsRunOf, Told, WereRead, IsDone, IsCutShort, IsHanded};
 ghost use Rattle.dt_run.specs.declared.limits.TheConstants.{SCRIPT_BYTES};
 
 use crate::arg_words::ArgWords;
@@ -94,12 +94,15 @@ fn run_source<S: Source, K: Sink, T: Turnstile>(
     sink: &mut K,
     turnstile: &T,
 ) -> Ran
-    ensures done { result.status ≡ Status.Done → IfSome (S.left source.old) (λ bytes.
-        (S.left source.new ≡ Some []) × IsDone bytes (K.taken sink.old) (K.taken sink.new) result.log) }
+    ensures done { result.status ≡ Status.Done → (bytes : List ℕ) × WereRead (S.left source.old) (S.left source.new) bytes
+        × IsDone bytes (K.taken sink.old) (K.taken sink.new) result.log }
     ensures write_fault { result.status ≡ Status.WriteFault → Rose (K.faults sink.old) (K.faults sink.new)
-        × IfSome (S.left source.old) (λ bytes. IsCutShort bytes (K.taken sink.old) (K.taken sink.new) result.log) }
+        × ((bytes : List ℕ) × WereRead (S.left source.old) (S.left source.new) bytes
+        × IsCutShort bytes (K.taken sink.old) (K.taken sink.new) result.log) }
     ensures script { result.status ≡ Status.Script → IfSome (S.left source.old) IsNoScript
         × Told (K.taken sink.old) (K.taken sink.new) (K.faults sink.old) (K.faults sink.new) script_text }
+    ensures script_read { result.status ≡ Status.Script → IfSome (S.left source.old) (λ bytes.
+        (SCRIPT_BYTES < length bytes) ⊎ (S.left source.new ≡ Some [])) }
     ensures read_fault { result.status ≡ Status.ReadFault → Rose (S.faults source.old) (S.faults source.new)
         × Told (K.taken sink.old) (K.taken sink.new) (K.faults sink.old) (K.faults sink.new) read_text }
     ensures no_memory { result.status ≡ Status.NoMemory
@@ -128,7 +131,8 @@ fn run_source<S: Source, K: Sink, T: Turnstile>(
 ///
 /// The status tells how it ended. [`Status::Done`]: the bytes are a first script, the log is an outcome of it, and
 /// the sink took its text. [`Status::Usage`]: exactly where the words are others; the source wasn't read.
-/// [`Status::Script`]: the bytes are no first script. [`Status::ReadFault`]: the source failed.
+/// [`Status::Script`]: the bytes to the end of the source, or more than a script may have, are no first script.
+/// [`Status::ReadFault`]: the source failed.
 /// [`Status::WriteFault`]: the sink failed while the log was printed, and took a prefix of its text.
 /// [`Status::NoMemory`]: memory was wanted. Where the status is another than done or a write fault, the sink took the
 /// text of the fault, or a prefix of it where the sink failed. No call waits or retries.
@@ -141,8 +145,8 @@ pub fn run<H: Threads + Sync, S: Source, K: Sink, T: Turnstile>(
     turnstile: &T,
 ) -> Ran
     // The headline, for first scripts.
-    ensures done { result.status ≡ Status.Done → IfSome (S.left source.old) (λ bytes.
-        (S.left source.new ≡ Some []) × IsDone bytes (K.taken sink.old) (K.taken sink.new) result.log) }
+    ensures done { result.status ≡ Status.Done → (bytes : List ℕ) × WereRead (S.left source.old) (S.left source.new) bytes
+        × IsDone bytes (K.taken sink.old) (K.taken sink.new) result.log }
 
     // The other endings: when each comes, and what the sink took.
     ensures usage { (result.status ≡ Status.Usage) ↔ (words.now ≢ run_words) }
@@ -151,10 +155,13 @@ pub fn run<H: Threads + Sync, S: Source, K: Sink, T: Turnstile>(
         → Told (K.taken sink.old) (K.taken sink.new) (K.faults sink.old) (K.faults sink.new) usage_text }
     ensures script { result.status ≡ Status.Script → IfSome (S.left source.old) IsNoScript
         × Told (K.taken sink.old) (K.taken sink.new) (K.faults sink.old) (K.faults sink.new) script_text }
+    ensures script_read { result.status ≡ Status.Script → IfSome (S.left source.old) (λ bytes.
+        (SCRIPT_BYTES < length bytes) ⊎ (S.left source.new ≡ Some [])) }
     ensures read_fault { result.status ≡ Status.ReadFault → Rose (S.faults source.old) (S.faults source.new)
         × Told (K.taken sink.old) (K.taken sink.new) (K.faults sink.old) (K.faults sink.new) read_text }
     ensures write_fault { result.status ≡ Status.WriteFault → Rose (K.faults sink.old) (K.faults sink.new)
-        × IfSome (S.left source.old) (λ bytes. IsCutShort bytes (K.taken sink.old) (K.taken sink.new) result.log) }
+        × ((bytes : List ℕ) × WereRead (S.left source.old) (S.left source.new) bytes
+        × IsCutShort bytes (K.taken sink.old) (K.taken sink.new) result.log) }
     ensures no_memory { result.status ≡ Status.NoMemory
         → Told (K.taken sink.old) (K.taken sink.new) (K.faults sink.old) (K.faults sink.new) memory_text }
     ensures log { IsHanded result.status result.log }

@@ -1,9 +1,14 @@
-ghost use Rattle.std.specs.Prelude.{◌≡◌, ℕ, ◌<◌, ◌≤◌, Some, [], IfOk, vec_len, vec_capacity};
+ghost use Rattle.std.specs.Prelude.{◌≡◌, ℕ, ◌<◌, ◌≤◌, Some, [], length, IfOk, OnErr};
+ghost use Rattle.std.specs.Io.{WritesAtMost};
+ghost use Rattle.std.specs.Io.KnownBytes.{WriteAppends};
+ghost use Rattle.dt_run.specs.Outside.{Rose};
+ghost use Rattle.dt_run.specs.InMemory.{Puts};
 
 use crate::outside::sink::Sink;
 use crate::outside::source::Failed;
 use dt_graph::NoMemory;
 use std::alloc::Global;
+use std::marker::Model;
 
 /// A sink in memory that tells what it took, takes it in steps, and fails at stated calls.
 #[derive(Debug, Drop)]
@@ -14,9 +19,17 @@ pub struct ListSink {
     failing: Vec<u32>,
     calls: u32,
     faults: u64,
-    ghost fits: { vec_len bytes ≤ room },
-    ghost reserved: { room ≤ vec_capacity bytes },
-    ghost some: { 0 < step },
+}
+
+impl Model for ListSink {
+    ghost use Rattle.std.specs.Prelude.{◌<◌, ◌≤◌, vec_len, vec_capacity};
+    ghost use Rattle.dt_run.specs.InMemory as shown;
+
+    ghost Value = { shown.ListSink };
+
+    ghost view = { λ s. record { taken = s.bytes.items; step = s.step; room = s.room; failing = s.failing.items; calls = s.calls; faults = s.faults } };
+
+    ghost invariant = { λ s. (vec_len s.bytes ≤ s.room) × (s.room ≤ vec_capacity s.bytes) × (0 < s.step) };
 }
 
 impl ListSink {
@@ -30,6 +43,7 @@ impl ListSink {
         requires { 0 < step }
         ensures taken { IfOk result (λ s. ⟦<ListSink as Sink>⟧.taken s ≡ Some []) }
         ensures faults { IfOk result (λ s. ⟦<ListSink as Sink>⟧.faults s ≡ 0) }
+        ensures whole { IfOk result (λ s. s ≡ record { taken = []; step = step; room = room; failing = failing.items; calls = 0; faults = 0 }) }
     {
         let bytes = Vec::with_capacity(alloc, room as usize)?;
         Ok(ListSink {
@@ -51,11 +65,19 @@ impl ListSink {
 }
 
 impl Sink for ListSink {
-    ghost taken = { λ s. Some s.bytes.items };
+    ghost taken = { λ s. Some s.taken };
 
     ghost faults = { λ s. s.faults };
 
-    fn put(&mut self, piece: &[u8]) -> Result<usize, Failed> {
+    fn put(&mut self, piece: &[u8]) -> Result<usize, Failed>
+        requires { 0 < length piece.now }
+        ensures bound { WritesAtMost result piece.now }
+        ensures some { IfOk result (λ count. 0 < count) }
+        ensures bytes { WriteAppends (Some self.old.taken) (Some self.new.taken) result piece.now }
+        ensures failed { OnErr result (Rose self.old.faults self.new.faults) }
+        ensures counts { self.old.faults ≤ self.new.faults }
+        ensures exactly { Puts self.old piece.now result self.new }
+    {
         self.calls = self.calls.saturating_add(1);
         let free = self.room as usize - self.bytes.len();
         if free == 0 || self.failing.contains(&self.calls) {

@@ -1,7 +1,12 @@
-ghost use Rattle.std.specs.Prelude.{◌≡◌, ℕ, ◌<◌, ◌≤◌, Some, drop, vec_len};
+ghost use Rattle.std.specs.Prelude.{◌≡◌, ℕ, ◌<◌, ◌≤◌, Some, [], length, OnErr};
+ghost use Rattle.std.specs.Io.{ReadsAtMost};
+ghost use Rattle.std.specs.Io.KnownBytes.{ReadConsumes};
+ghost use Rattle.dt_run.specs.Outside.{Rose};
+ghost use Rattle.dt_run.specs.InMemory.{Reads};
 
 use crate::outside::copy::copy_front;
 use crate::outside::source::{Failed, Source};
+use std::marker::Model;
 
 /// A source in memory that tells its bytes, gives them in steps, and fails at stated calls.
 #[derive(Debug, Drop)]
@@ -12,8 +17,17 @@ pub struct ListSource {
     failing: Vec<u32>,
     calls: u32,
     faults: u64,
-    ghost within: { at ≤ vec_len bytes },
-    ghost some: { 0 < step },
+}
+
+impl Model for ListSource {
+    ghost use Rattle.std.specs.Prelude.{◌<◌, ◌≤◌, drop, vec_len};
+    ghost use Rattle.dt_run.specs.InMemory as shown;
+
+    ghost Value = { shown.ListSource };
+
+    ghost view = { λ s. record { left = drop s.at s.bytes.items; step = s.step; failing = s.failing.items; calls = s.calls; faults = s.faults } };
+
+    ghost invariant = { λ s. (s.at ≤ vec_len s.bytes) × (0 < s.step) };
 }
 
 impl ListSource {
@@ -23,6 +37,7 @@ impl ListSource {
         requires { 0 < step }
         ensures left { ⟦<ListSource as Source>⟧.left result ≡ Some bytes.items }
         ensures faults { ⟦<ListSource as Source>⟧.faults result ≡ 0 }
+        ensures whole { result ≡ record { left = bytes.items; step = step; failing = failing.items; calls = 0; faults = 0 } }
     {
         ListSource {
             bytes,
@@ -36,11 +51,18 @@ impl ListSource {
 }
 
 impl Source for ListSource {
-    ghost left = { λ s. Some (drop s.at s.bytes.items) };
+    ghost left = { λ s. Some s.left };
 
     ghost faults = { λ s. s.faults };
 
-    fn read(&mut self, room: &mut [u8]) -> Result<usize, Failed> {
+    fn read(&mut self, room: &mut [u8]) -> Result<usize, Failed>
+        requires { 0 < length room.old }
+        ensures bound { ReadsAtMost result room.new }
+        ensures bytes { ReadConsumes (Some self.old.left) (Some self.new.left) result room.new }
+        ensures failed { OnErr result (Rose self.old.faults self.new.faults) }
+        ensures counts { self.old.faults ≤ self.new.faults }
+        ensures exactly { Reads self.old (length room.old) result self.new }
+    {
         self.calls = self.calls.saturating_add(1);
         if self.failing.contains(&self.calls) {
             self.faults = self.faults.saturating_add(1);

@@ -1,4 +1,4 @@
-use Rattle.std.proofs.Common.{ℕ, ◌≤◌, ◌-◌, List, length, take, drop, length-take, length-drop, arith}
+use Rattle.std.proofs.Common.{ℕ, length-take, length-drop, arith}
 use Rattle.dt_run.proofs.Appending.{appends_more, take-rest}
 use Rattle.dt_run.proofs.putting.put_all.Goals as goal
 

@@ -1,4 +1,4 @@
-use Rattle.std.proofs.Common.{◌≡◌, ◌+◌, ◌-◌, ◌≤◌, ◌<◌, vec_len, [], length}
+use Rattle.std.proofs.Common.{◌-◌, ◌≤◌, ◌<◌, vec_len, []}
 use Rattle.dt_run.specs.Reading.{Moves}
 use Rattle.dt_run.proofs.reading.read_to_end.Given as goal
 
