@@ -1,0 +1,5 @@
+pub mod Size
+pub mod Draw
+pub mod Generator
+pub mod Work
+pub mod Figures

@@ -1,0 +1,185 @@
+ghost use Rattle.std.specs.Prelude.{◌≡◌, ◌↔◌, IsSome, IfSome};
+ghost use Rattle.dispatch_bench.specs.Size.{IsClassCount};
+
+use crate::draws::Draws;
+use crate::fault::Fault;
+use crate::figures::cost;
+use crate::metric::Metric;
+use crate::mix::Mix;
+use crate::program_rounds::{ROUNDS, time_pairs};
+use crate::queries::random_pairs;
+use crate::shape::Shape;
+use crate::stopwatch::Stopwatch;
+use crate::table::Table;
+use dt_graph::{CLASSES, ClassGraph, ClassNo};
+use std::alloc::Global;
+use std::rt::Clock;
+
+/// How often a round makes each change.
+const CHANGES: u32 = 16;
+
+/// How often a round asks for the classes below one.
+const DESCENDANTS: u32 = 4;
+
+/// A shape, and how many classes a graph of it has.
+#[derive(Clone, Copy, Debug)]
+pub struct GraphPlan {
+    /// The shape.
+    pub shape: Shape,
+    /// The classes, from 2 to 2,048.
+    pub classes: u16,
+    pub ghost in_range: { IsClassCount classes },
+}
+
+impl GraphPlan {
+    /// This plan; `None` exactly where the number of classes isn't in range.
+    pub fn new(shape: Shape, classes: u16) -> Option<GraphPlan>
+        ensures when { IsSome result ↔ IsClassCount classes }
+        ensures value { IfSome result (λ plan. (plan.shape ≡ shape) × (plan.classes ≡ classes)) }
+    {
+        if !(2..=CLASSES).contains(&classes) {
+            return None;
+        }
+        Some(GraphPlan { shape, classes })
+    }
+}
+
+/// A change of a graph.
+#[derive(Clone, Copy, Debug)]
+enum Change {
+    Link { class: ClassNo, parent: ClassNo },
+    Unlink { class: ClassNo, parent: ClassNo },
+    Add { class: ClassNo },
+    Drop { class: ClassNo },
+}
+
+impl Change {
+    /// What is measured by the change.
+    fn metric(self) -> Metric {
+        match self {
+            Change::Link { .. } => Metric::Link,
+            Change::Unlink { .. } => Metric::Unlink,
+            Change::Add { .. } => Metric::Add,
+            Change::Drop { .. } => Metric::Drop,
+        }
+    }
+
+    /// Makes the change, and tells whether it was accepted.
+    fn make(self, graph: &mut ClassGraph, shape: Shape) -> bool {
+        match self {
+            Change::Link { class, parent } => graph.link(class, parent).is_ok(),
+            Change::Unlink { class, parent } => graph.unlink(class, parent).is_ok(),
+            Change::Add { class } => shape.add(graph, class).is_ok(),
+            Change::Drop { class } => graph.drop_class(class).is_ok(),
+        }
+    }
+}
+
+/// Makes a change, and answers how many nanoseconds it took.
+fn time_change(
+    rt: &impl Clock,
+    graph: &mut ClassGraph,
+    shape: Shape,
+    change: Change,
+    mix: &mut Mix,
+) -> Result<u64, Fault> {
+    let watch = Stopwatch::start(rt)?;
+    let accepted = change.make(graph, shape);
+    let time = watch.nanoseconds(rt)?;
+    mix.add(u32::from(accepted));
+    Ok(time)
+}
+
+/// Times a change and the one that undoes it, in turn.
+fn time_changes(
+    rt: &impl Clock,
+    table: &mut Table,
+    graph: &mut ClassGraph,
+    shape: Shape,
+    changes: (Change, Change),
+    mix: &mut Mix,
+) -> Result<(), Fault> {
+    let (there, back) = changes;
+    let mut times: (u64, u64) = (0, 0);
+    for _ in 0..CHANGES {
+        times.0 = times
+            .0
+            .saturating_add(time_change(rt, graph, shape, there, mix)?);
+        times.1 = times
+            .1
+            .saturating_add(time_change(rt, graph, shape, back, mix)?);
+    }
+    let unit = there.metric().unit().nanoseconds();
+    table.put(there.metric(), cost(times.0, unit, CHANGES))?;
+    table.put(back.metric(), cost(times.1, unit, CHANGES))?;
+    Ok(())
+}
+
+/// Times the classes below the one in the middle.
+fn time_descendants(
+    rt: &impl Clock,
+    table: &mut Table,
+    graph: &ClassGraph,
+    class: ClassNo,
+    below: &mut Vec<ClassNo>,
+    mix: &mut Mix,
+) -> Result<(), Fault> {
+    let watch = Stopwatch::start(rt)?;
+    for _ in 0..DESCENDANTS {
+        below.clear();
+        graph.descendants_into(class, below)?;
+    }
+    watch.stop(rt, table, Metric::Descendants, DESCENDANTS)?;
+    mix.add(u32::try_from(below.len()).unwrap_or(u32::MAX));
+    Ok(())
+}
+
+/// The changes that are tried: a link in the middle, if there is one, and the last class.
+fn planned_changes(plan: GraphPlan) -> (Option<(Change, Change)>, (Change, Change)) {
+    let link = plan.shape.middle_link(plan.classes).map(|(class, parent)| {
+        let link = Change::Link { class, parent };
+        let unlink = Change::Unlink { class, parent };
+        if plan.shape == Shape::Star {
+            (link, unlink)
+        } else {
+            (unlink, link)
+        }
+    });
+    let class = ClassNo::new(plan.classes - 1).unwrap();
+    (link, (Change::Drop { class }, Change::Add { class }))
+}
+
+/// Times a round.
+fn time_round(
+    rt: &impl Clock,
+    table: &mut Table,
+    graph: &mut ClassGraph,
+    plan: GraphPlan,
+    pairs: &Vec<(ClassNo, ClassNo)>,
+    below: &mut Vec<ClassNo>,
+) -> Result<(), Fault> {
+    let mut mix = Mix::new();
+    let middle = ClassNo::new(plan.classes / 2).unwrap();
+    let (link, last) = planned_changes(plan);
+    time_pairs(rt, table, graph, pairs, &mut mix)?;
+    if let Some(link) = link {
+        time_changes(rt, table, graph, plan.shape, link, &mut mix)?;
+    }
+    time_changes(rt, table, graph, plan.shape, last, &mut mix)?;
+    time_descendants(rt, table, graph, middle, below, &mut mix)?;
+    table.put(Metric::Mix, u64::from(mix.number()))?;
+    Ok(())
+}
+
+/// Times a graph of this shape with so many classes.
+pub fn time_graph<R: Clock + AllocGlobal>(rt: &R, plan: GraphPlan) -> Result<Table, Fault> {
+    let alloc = rt.alloc();
+    let mut graph = plan.shape.graph(alloc, plan.classes)?;
+    let pairs = random_pairs(alloc, &mut Draws::new(1), plan.classes)?;
+    let mut below = Vec::with_capacity(alloc, usize::from(plan.classes))?;
+    let mut table = Table::new(alloc);
+    for _ in 0..ROUNDS {
+        time_round(rt, &mut table, &mut graph, plan, &pairs, &mut below)?;
+    }
+    Ok(table)
+}

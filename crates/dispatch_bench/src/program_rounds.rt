@@ -1,0 +1,313 @@
+use crate::draws::Draws;
+use crate::edits::{Trial, links, new_classes, redefines, refused_batch, undefines, unlinks};
+use crate::fault::Fault;
+use crate::generator::draw_program;
+use crate::metric::Metric;
+use crate::mix::Mix;
+use crate::queries::{calls_of_one, hits_of_two, random_pairs};
+use crate::size::Size;
+use crate::stopwatch::Stopwatch;
+use crate::table::Table;
+use crate::work::{apply_all, count_below, load, resolve_all};
+use dt_definitions::{Batch, BatchFault, ClassGraph, ClassNo, Edit, NoMemory, Program};
+use dt_scratch::Query;
+use std::alloc::Global;
+use std::fs;
+use std::rt::{Clock, Files};
+
+/// How many rounds are timed.
+pub const ROUNDS: u32 = 21;
+
+/// How often a round tries the batch that is refused.
+const BATCHES: u32 = 4;
+
+/// How many bytes a page of the process has.
+const PAGE: u64 = 4096;
+
+/// What each round asks and edits.
+#[derive(Drop)]
+pub struct Workload {
+    hits_of_one: Vec<Query>,
+    random_of_one: Vec<Query>,
+    hits_of_two: Vec<Query>,
+    pairs: Vec<(ClassNo, ClassNo)>,
+    undefines: Trial,
+    redefines: Trial,
+    links: Trial,
+    unlinks: Trial,
+    classes: Trial,
+    refused: Batch,
+}
+
+impl Workload {
+    /// Draws the work for this program, which is left as it is found.
+    pub fn draw(
+        alloc: Global,
+        draws: &mut Draws,
+        size: Size,
+        batches: &[Batch],
+        program: &mut Program,
+    ) -> Result<Workload, NoMemory> {
+        Ok(Workload {
+            hits_of_one: calls_of_one(alloc, draws, size, program, true)?,
+            random_of_one: calls_of_one(alloc, draws, size, program, false)?,
+            hits_of_two: hits_of_two(alloc, draws, size, program, batches)?,
+            pairs: random_pairs(alloc, draws, size.classes)?,
+            undefines: undefines(alloc, draws, size, batches, program)?,
+            redefines: redefines(alloc, draws, size, batches, program)?,
+            links: links(alloc, draws, size, program)?,
+            unlinks: unlinks(alloc, draws, size, batches, program)?,
+            classes: new_classes(alloc, draws, size, program)?,
+            refused: refused_batch(alloc, draws, size, batches)?,
+        })
+    }
+
+    /// How many of the edits that were drawn are accepted.
+    pub fn edits(&self) -> usize {
+        let definitions = self
+            .undefines
+            .edits
+            .len()
+            .saturating_add(self.redefines.edits.len());
+        let links = self
+            .links
+            .edits
+            .len()
+            .saturating_add(self.unlinks.edits.len());
+        definitions
+            .saturating_add(links)
+            .saturating_add(self.classes.edits.len())
+    }
+}
+
+/// How many operations a list has.
+fn operations<T>(list: &Vec<T>) -> u32 {
+    u32::try_from(list.len()).unwrap_or(u32::MAX)
+}
+
+/// The resident memory of the process in thousandths of a million bytes.
+pub fn memory<R: Files + AllocGlobal>(rt: &R) -> Result<u64, Fault> {
+    let text = fs::read_to_string(rt, "/proc/self/statm")?;
+    let word = text.split_whitespace().nth(1).ok_or(Fault::Outside)?;
+    let pages = word.parse::<u64>().map_err(|_| Fault::Outside)?;
+    Ok(pages.saturating_mul(PAGE) / 1000)
+}
+
+/// Times the queries.
+fn time_queries(
+    rt: &impl Clock,
+    table: &mut Table,
+    metric: Metric,
+    program: &Program,
+    queries: &Vec<Query>,
+    mix: &mut Mix,
+) -> Result<(), Fault> {
+    let count = operations(queries);
+    if count == 0 {
+        return Ok(());
+    }
+    let watch = Stopwatch::start(rt)?;
+    resolve_all(program, queries, mix);
+    watch.stop(rt, table, metric, count)
+}
+
+/// Times the edits.
+fn time_edits(
+    rt: &impl Clock,
+    table: &mut Table,
+    metric: Metric,
+    program: &mut Program,
+    edits: &Vec<Edit>,
+    mix: &mut Mix,
+) -> Result<(), Fault> {
+    let count = operations(edits);
+    if count == 0 {
+        return Ok(());
+    }
+    let watch = Stopwatch::start(rt)?;
+    mix.add(apply_all(program, edits)?);
+    watch.stop(rt, table, metric, count)
+}
+
+/// Times the edits, and undoes them.
+fn time_trial(
+    rt: &impl Clock,
+    table: &mut Table,
+    metric: Metric,
+    program: &mut Program,
+    trial: &Trial,
+    mix: &mut Mix,
+) -> Result<(), Fault> {
+    time_edits(rt, table, metric, program, &trial.edits, mix)?;
+    mix.add(apply_all(program, &trial.undo)?);
+    Ok(())
+}
+
+/// Times the load of a program by its batches.
+fn time_load<R: Clock + AllocGlobal>(
+    rt: &R,
+    table: &mut Table,
+    batches: &[Batch],
+    mix: &mut Mix,
+) -> Result<(), Fault> {
+    let watch = Stopwatch::start(rt)?;
+    let program = load(rt.alloc(), batches)?;
+    watch.stop(rt, table, Metric::Load, 1)?;
+    mix.add(program.definitions());
+    Ok(())
+}
+
+/// Times a batch that is refused, which leaves the program as it is.
+fn time_refused(
+    rt: &impl Clock,
+    table: &mut Table,
+    program: &mut Program,
+    batch: &Batch,
+    mix: &mut Mix,
+) -> Result<(), Fault> {
+    let watch = Stopwatch::start(rt)?;
+    for _ in 0..BATCHES {
+        match program.apply_batch(batch) {
+            Ok(()) => mix.add(0),
+            Err(BatchFault::Refused { at, .. }) => mix.add(at),
+            Err(BatchFault::NoMemory) => return Err(Fault::NoMemory),
+        }
+    }
+    watch.stop(rt, table, Metric::RefusedBatch, BATCHES)
+}
+
+/// Times the pairs of classes.
+pub fn time_pairs(
+    rt: &impl Clock,
+    table: &mut Table,
+    graph: &ClassGraph,
+    pairs: &Vec<(ClassNo, ClassNo)>,
+    mix: &mut Mix,
+) -> Result<(), Fault> {
+    let count = operations(pairs);
+    if count == 0 {
+        return Ok(());
+    }
+    let watch = Stopwatch::start(rt)?;
+    let below = count_below(graph, pairs);
+    watch.stop(rt, table, Metric::IsBelow, count)?;
+    mix.add(u32::try_from(below).unwrap_or(u32::MAX));
+    Ok(())
+}
+
+/// Times the look-ups of a round.
+fn time_lookups(
+    rt: &impl Clock,
+    table: &mut Table,
+    program: &Program,
+    work: &Workload,
+    mix: &mut Mix,
+) -> Result<(), Fault> {
+    time_queries(
+        rt,
+        table,
+        Metric::HitsOfOne,
+        program,
+        &work.hits_of_one,
+        mix,
+    )?;
+    time_queries(
+        rt,
+        table,
+        Metric::RandomOfOne,
+        program,
+        &work.random_of_one,
+        mix,
+    )?;
+    time_queries(
+        rt,
+        table,
+        Metric::HitsOfTwo,
+        program,
+        &work.hits_of_two,
+        mix,
+    )?;
+    time_pairs(rt, table, program.graph(), &work.pairs, mix)
+}
+
+/// Times the edits of a round, each kind on the program as it was.
+fn time_changes(
+    rt: &impl Clock,
+    table: &mut Table,
+    program: &mut Program,
+    work: &Workload,
+    mix: &mut Mix,
+) -> Result<(), Fault> {
+    time_edits(
+        rt,
+        table,
+        Metric::Undefine,
+        program,
+        &work.undefines.edits,
+        mix,
+    )?;
+    time_edits(
+        rt,
+        table,
+        Metric::Define,
+        program,
+        &work.undefines.undo,
+        mix,
+    )?;
+    time_trial(rt, table, Metric::Redefine, program, &work.redefines, mix)?;
+    time_trial(rt, table, Metric::LinkEdit, program, &work.links, mix)?;
+    time_trial(rt, table, Metric::UnlinkEdit, program, &work.unlinks, mix)?;
+    time_edits(
+        rt,
+        table,
+        Metric::ClassEdit,
+        program,
+        &work.classes.edits,
+        mix,
+    )?;
+    time_edits(
+        rt,
+        table,
+        Metric::DropEdit,
+        program,
+        &work.classes.undo,
+        mix,
+    )?;
+    time_refused(rt, table, program, &work.refused, mix)
+}
+
+/// Times a round.
+fn time_round<R: Clock + AllocGlobal>(
+    rt: &R,
+    table: &mut Table,
+    program: &mut Program,
+    batches: &[Batch],
+    work: &Workload,
+) -> Result<(), Fault> {
+    let mut mix = Mix::new();
+    time_lookups(rt, table, program, work, &mut mix)?;
+    time_changes(rt, table, program, work, &mut mix)?;
+    time_load(rt, table, batches, &mut mix)?;
+    table.put(Metric::Mix, u64::from(mix.number()))?;
+    Ok(())
+}
+
+/// Times the generated program of this number and size.
+pub fn time_program<R: Clock + Files + AllocGlobal>(
+    rt: &R,
+    number: u64,
+    size: Size,
+) -> Result<Table, Fault> {
+    let alloc = rt.alloc();
+    let mut draws = Draws::new(number);
+    let batches = draw_program(alloc, &mut draws, size)?;
+    let mut program = load(alloc, &batches)?;
+    let memory = memory(rt)?;
+    let work = Workload::draw(alloc, &mut draws, size, &batches, &mut program)?;
+    let mut table = Table::new(alloc);
+    for _ in 0..ROUNDS {
+        time_round(rt, &mut table, &mut program, &batches, &work)?;
+    }
+    table.put(Metric::Memory, memory)?;
+    Ok(table)
+}

@@ -1,0 +1,28 @@
+ghost use Rattle.std.specs.Prelude.{◌↔◌, IsSome, IfSome, ◌≡◌};
+ghost use Rattle.dispatch_bench.specs.Size.{IsSize};
+
+use dt_graph::CLASSES;
+use dt_selectors::SELECTORS;
+
+/// How many classes and selectors a generated program has.
+#[derive(Clone, Copy, Debug)]
+pub struct Size {
+    /// The classes, from 2 to 2,048.
+    pub classes: u16,
+    /// The selectors, from 1 to 4,096.
+    pub selectors: u16,
+    pub ghost in_range: { IsSize classes selectors },
+}
+
+impl Size {
+    /// This size; `None` exactly where a number isn't in range.
+    pub fn new(classes: u16, selectors: u16) -> Option<Size>
+        ensures when { IsSome result ↔ IsSize classes selectors }
+        ensures value { IfSome result (λ size. (size.classes ≡ classes) × (size.selectors ≡ selectors)) }
+    {
+        if !(2..=CLASSES).contains(&classes) || !(1..=SELECTORS).contains(&selectors) {
+            return None;
+        }
+        Some(Size { classes, selectors })
+    }
+}

@@ -1,0 +1,63 @@
+ghost use Rattle.std.specs.Prelude.{◌≡◌};
+
+use crate::graph_rounds::GraphPlan;
+use crate::shape::Shape;
+use crate::size::Size;
+
+/// What the program is asked for.
+#[derive(Clone, Copy, Debug)]
+pub enum Command {
+    /// Counts of a tiny program, with nothing timed.
+    Count,
+    /// The figures of the generated program of this number and size.
+    Program { number: u64, size: Size },
+    /// The figures of a graph.
+    Graph { plan: GraphPlan },
+}
+
+/// The number that the word is in decimal digits.
+fn number(word: &str) -> Option<u64> {
+    if word.as_bytes().first() == Some(&b'+') {
+        return None;
+    }
+    word.parse::<u64>().ok()
+}
+
+/// The number that the word is, where 16 bits hold it.
+fn small(word: &str) -> Option<u16> {
+    u16::try_from(number(word)?).ok()
+}
+
+/// The shape of this word.
+fn shape_of(word: &str) -> Option<Shape> {
+    if word == "chain" {
+        return Some(Shape::Chain);
+    }
+    if word == "star" {
+        return Some(Shape::Star);
+    }
+    if word == "diamonds" {
+        return Some(Shape::Diamonds);
+    }
+    None
+}
+
+/// The command that the words after the program's name are; `None` where they are none.
+pub fn read_command(words: &[String]) -> Option<Command> {
+    match words {
+        [] => Some(Command::Count),
+        [word, shape_word, classes] if word.as_str() == "graph" => {
+            let shape = shape_of(shape_word.as_str())?;
+            let plan = GraphPlan::new(shape, small(classes.as_str())?)?;
+            Some(Command::Graph { plan })
+        }
+        [word, n, classes, selectors] if word.as_str() == "bench" => {
+            let size = Size::new(small(classes.as_str())?, small(selectors.as_str())?)?;
+            Some(Command::Program {
+                number: number(n.as_str())?,
+                size,
+            })
+        }
+        _ => None,
+    }
+}
