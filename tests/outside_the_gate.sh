@@ -53,9 +53,9 @@ while :; do
         0) cmp -s "$folder/text" crates/dispatch_cli/stdout ;;
         6) [ ! -s "$folder/text" ] || [ "$(cat "$folder/text")" = "fault memory" ] ;;
         *) false ;;
-    esac || { echo "request $number refused: status $status is wrong"; exit 1; }
+    esac || { echo "allocation number $number refused: status $status is wrong"; exit 1; }
     [ "$status" = 6 ] && refused=$((refused + 1)) && last=$number
     [ "$number" -ge $((${last:-0} + 200)) ] && break
     number=$((number + 1))
 done
-echo "memory: of $number requests tried, $refused refusals ended with status 6, the last at request ${last:-0}; all others with status 0 and the whole text"
+echo "memory: of $number allocations tried, $refused refusals ended with status 6, the last that of number ${last:-0}; all others with status 0 and the whole text"
