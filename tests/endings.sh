@@ -1,0 +1,66 @@
+#!/bin/sh
+# Each way in which the built program ends, with its status and what it put to standard output: that the words, standard
+# input, standard output and the exit status are those of the process is in no contract.
+set -eu
+cd "$(dirname "$0")/.."
+folder=$(mktemp -d)
+trap 'rm -rf "$folder"' EXIT
+printf 'dispatch 1\nend\n' >"$folder/empty"
+printf 'dispatch 1\nend' >"$folder/cut"
+printf 'phase 1 0 0\ndone 0\n' >"$folder/nothing_done"
+printf 'fault script\n' >"$folder/fault_script"
+printf 'fault read\n' >"$folder/fault_read"
+printf '%s\n' 'usage: dispatch run --table sti|colour|row|mrd [--readers R] [--pages P] [--limit L]' \
+    '       dispatch gen --table sti|colour|row|mrd --number N --classes C --selectors S' >"$folder/usage"
+: >"$folder/no_text"
+./dispatch run --table sti <"$folder/empty" >/dev/null
+program=crates/dispatch_cli/out/dispatch_cli
+passed=0
+failed=0
+
+# ended NAME STATUS WANTED_STATUS TEXT WANTED_TEXT
+ended() {
+    if [ "$2" = "$3" ] && cmp -s "$4" "$5"; then
+        passed=$((passed + 1))
+    else
+        failed=$((failed + 1))
+        echo "$1: status $2, expected $3, and it printed:"
+        head -c 400 "$4"
+    fi
+}
+
+# ends NAME WANTED_STATUS WANTED_TEXT INPUT WORD..
+ends() {
+    name=$1 wanted=$2 wanted_text=$3 input=$4
+    shift 4
+    status=0
+    "$program" "$@" <"$input" >"$folder/text" 2>"$folder/other" || status=$?
+    ended "$name" "$status" "$wanted" "$folder/text" "$wanted_text"
+    ended "$name, standard error" "$status" "$wanted" "$folder/other" "$folder/no_text"
+}
+
+# The examples print what stands below their command in examples/README.md.
+for script in override redefine refusals; do
+    awk -v command="\$ ./dispatch run --table sti < examples/$script.dispatch" \
+        '$0 == command { on = 1; next } /^```/ { on = 0 } on' examples/README.md >"$folder/example"
+    ends "$script" 0 "$folder/example" "examples/$script.dispatch" run --table sti
+done
+ends "no edit" 0 "$folder/nothing_done" "$folder/empty" run --table sti
+ends "no word" 2 "$folder/usage" "$folder/empty"
+ends "a word too few" 2 "$folder/usage" "$folder/empty" run --table
+ends "a word too many" 2 "$folder/usage" "$folder/empty" run --table sti sti
+ends "an empty word" 2 "$folder/usage" "$folder/empty" run --table ""
+ends "another order" 2 "$folder/usage" "$folder/empty" --table run sti
+ends "a word that is no text" 2 "$folder/usage" "$folder/empty" run --table sti "$(printf '\377')"
+ends "no line feed at the end" 3 "$folder/fault_script" "$folder/cut" run --table sti
+ends "no byte" 3 "$folder/fault_script" /dev/null run --table sti
+ends "bytes without an end" 3 "$folder/fault_script" /dev/zero run --table sti
+ends "an input that can't be read" 4 "$folder/fault_read" / run --table sti
+
+# What a device takes that is always full can't be looked at.
+status=0
+"$program" run --table sti <"$folder/empty" >/dev/full || status=$?
+ended "a full device" "$status" 5 "$folder/no_text" "$folder/no_text"
+
+echo "endings: $passed passed, $failed failed"
+[ "$failed" = 0 ]
