@@ -1,6 +1,7 @@
 #!/bin/sh
 # Each way in which the built program ends, with its status and what it put to standard output: that the words, standard
-# input, standard output and the exit status are those of the process is in no contract.
+# input, standard output and the exit status are those of the process is in no contract. The program is the one named; else
+# that of these sources, which is built where it isn't yet.
 set -eu
 cd "$(dirname "$0")/.."
 folder=$(mktemp -d)
@@ -13,8 +14,11 @@ printf 'fault read\n' >"$folder/fault_read"
 printf '%s\n' 'usage: dispatch run --table sti|colour|row|mrd [--readers R] [--pages P] [--limit L]' \
     '       dispatch gen --table sti|colour|row|mrd --number N --classes C --selectors S' >"$folder/usage"
 : >"$folder/no_text"
-./dispatch run --table sti <"$folder/empty" >/dev/null
-program=crates/dispatch_cli/out/dispatch_cli
+program=${1:-}
+if [ -z "$program" ]; then
+    ./dispatch run --table sti <"$folder/empty" >/dev/null
+    program=crates/dispatch_cli/out/dispatch_cli
+fi
 passed=0
 failed=0
 
