@@ -1,5 +1,5 @@
 -- What a reader that is inside a root can rest on.
-use Rattle.std.proofs.Common.{◌≡◌, ℕ, ◌<◌, Bool, true, false, nat_lt, cond, List, [], ◌∷◌, ◌++◌, length, refl, sym, subst, ap, ◌∙◌, arith, ltb-true, ltb-false, get_or-set_same}
+use Rattle.std.proofs.Common.{◌≡◌, ℕ, Bool, true, false, nat_lt, cond, List, [], ◌∷◌, ◌++◌, length, refl, sym, subst, ap, ◌∙◌, arith, ltb-true, ltb-false, get_or-set_same}
 use Rattle.dt_pages.specs.Reading.{Reading, Reaches, levels}
 use Rattle.dt_pages.proofs.Readings.{meets_other}
 use Rattle.dt_gate.specs.declared.event.Event.TheVariants.{Read, Fill}

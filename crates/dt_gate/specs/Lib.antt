@@ -9,3 +9,7 @@ pub mod Examples
 pub mod Stays
 pub mod Readers
 pub mod Sweeps
+pub mod Busy
+pub mod Unsound
+pub mod Effects
+pub mod Allowed

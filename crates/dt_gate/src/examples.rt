@@ -2,6 +2,7 @@
 
 ghost use Rattle.dt_gate.specs.Gate.{limits};
 ghost use Rattle.dt_gate.specs.Runs.{EveryRunIsSound};
+ghost use Rattle.dt_gate.specs.Busy.{BusyIsReached};
 ghost use Rattle.dt_gate.specs.Examples.{counted, OldRootIsFreed, PastTheLimit, PagesAreRead, NoteTellsHistory, SeatIsTakenBack};
 
 use crate::event::Event;
@@ -47,4 +48,9 @@ pub fn a_note_tells_the_history()
 /// A reader seat is given back: the author has what it entered, and its worn look.
 pub fn a_seat_is_taken_back()
     ensures { SeatIsTakenBack }
+{}
+
+/// A run of both readers, a publish and a poll, and the whole gate that it leads to.
+pub fn a_busy_gate_is_reached()
+    ensures { BusyIsReached }
 {}

@@ -15,8 +15,8 @@ mod wrong;
 
 pub use event::{Event, Holder, ReadWord, RecordWord};
 pub use examples::{
-    Counting, a_note_tells_the_history, a_seat_is_taken_back, an_old_root_is_freed,
-    pages_are_filled_and_read, three_readers_pass_the_limit,
+    Counting, a_busy_gate_is_reached, a_note_tells_the_history, a_seat_is_taken_back,
+    an_old_root_is_freed, pages_are_filled_and_read, three_readers_pass_the_limit,
 };
 pub use gate::{Frozen, Gate, Laid, Root, Seat, Stage, Standing};
 pub use laws::{
