@@ -5,8 +5,7 @@ use Rattle.std.specs.FinMap.{entries, find, get, get-entries}
 use Rattle.std.specs.Ordering.{nat_cmp}
 use Rattle.std.proofs.lemmas.Bool.Decides.{nat_tests}
 use Rattle.std.proofs.lemmas.List.Elements.{recursion_from_All}
-use Rattle.dt_pages.specs.Reading.{Pages, addresses, levels, follow, reading}
-use Rattle.dt_pages.specs.Image.{Image, IsImage, look_up}
+use Rattle.dt_pages.specs.Reading.{addresses, levels, follow}
 use Rattle.dt_pages.specs.Laws.{ImagesSetWords, LevelsHoldAddresses, NothingIsPastTheLast}
 use Rattle.dt_pages.proofs.Nodes.{same_test}
 
@@ -14,7 +13,7 @@ pub levels_hold : LevelsHoldAddresses
 levels_hold = refl
 
 -- an address with a word
-abbrev IsSet : ℕ × ℕ → Type 0
+abbrev pub IsSet : ℕ × ℕ → Type 0
 IsSet set = (set.0 < addresses) × (set.1 ≢ 0)
 
 found_set : (es : List (ℕ × ℕ)) → AllByRecursion IsSet es → (address word : ℕ) → find nat_cmp address es ≡ Some word

@@ -1,4 +1,6 @@
 pub mod Addresses
 pub mod Nodes
 pub mod Readings
+pub mod ThreeWords
 pub mod SixPages
+pub mod Needed

@@ -1,17 +1,13 @@
 -- Six pages show an image of three words.
-use Rattle.std.proofs.Common.{◌≡◌, ◌≢◌, ℕ, ◌/◌, ◌%◌, ◌^◌, ◌<◌, ◌≤◌, ◌==◌, nat_lt, Bool, true, false, cond, List, [], ◌∷◌, unwrap_or, Some, None, refl, sym, ap, ◌∙◌, arith, eq-eqb, ne_eqb, ltb-true, ltb-false, inl, inr}
+use Rattle.std.proofs.Common.{◌≡◌, ◌≢◌, ℕ, ◌/◌, ◌%◌, ◌^◌, ◌<◌, ◌≤◌, ◌==◌, nat_lt, Bool, true, false, cond, unwrap_or, Some, None, refl, sym, ap, ◌∙◌, arith, eq-eqb, ne_eqb, ltb-true, ltb-false, inl, inr}
 use mathlib.Core.Path.{fun_ext}
 use native.Mathlib.Decide.{ℕ_discrete}
-use Rattle.std.specs.FinMap.{get-from_sorted}
-use Rattle.std.specs.Ordering.{nat_cmp}
 use Rattle.std.proofs.lemmas.Bool.Decides.{nat_tests}
 use Rattle.dt_pages.specs.Reading.{levels, addresses, follow, reading, Meets, Reaches}
 use Rattle.dt_pages.specs.Image.{look_up}
 use Rattle.dt_pages.proofs.Nodes.{same_test}
+use Rattle.dt_pages.proofs.ThreeWords.{found}
 use Rattle.dt_pages.specs.Laws.{three_words, six_pages}
-
-abbrev pub three : List (ℕ × ℕ)
-three = (0, 1) ∷ (4096, 1) ∷ (16777216, 4294967298) ∷ []
 
 -- the word at an address, by cases
 abbrev chosen : ℕ → ℕ
@@ -19,7 +15,7 @@ chosen address = cond (address == 0) 1 (cond (address == 4096) 1 (cond (address 
 
 looked_up : (address : ℕ) → look_up three_words address ≡ chosen address
 looked_up address =
-    ap (λ found. unwrap_or found 0) (get-from_sorted nat_cmp three address tt)
+    ap (λ word. unwrap_or word 0) (found address)
     ∙ simp (same_test address 0, same_test address 4096, same_test address 16777216) (pick (address == 0) (address == 4096) (address == 16777216))
   where
     pick : (a b c : Bool) → ◌≡◌ {A = ℕ} (unwrap_or (cond a (Some 1) (cond b (Some 1) (cond c (Some 4294967298) None))) 0) (cond a 1 (cond b 1 (cond c 4294967298 0)))

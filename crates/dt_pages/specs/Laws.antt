@@ -1,9 +1,9 @@
 -- What holds of readings and images, and examples.
-use Rattle.std.specs.Prelude.{true, ◌≢◌, ◌≡◌, ℕ, ◌<◌, ◌≤◌, ◌^◌, ◌==◌, ◌↔◌, if◌then◌else◌, ◌&&◌, List, [], ◌∷◌, Some, Any, Contains}
+use Rattle.std.specs.Prelude.{true, false, ◌≢◌, ◌≡◌, ℕ, ◌<◌, ◌≤◌, ◌^◌, ◌==◌, ◌↔◌, if◌then◌else◌, ◌&&◌, List, [], ◌∷◌, Some, Any, Contains}
 use Rattle.std.specs.List.Sorted.{IsStrictlyIncreasing}
 use Rattle.std.specs.FinMap.{empty, entries, from_sorted, get}
 use Rattle.dt_pages.specs.Reading.{Pages, blank, levels, addresses, reading, Reaches}
-use Rattle.dt_pages.specs.Image.{Image, IsImage, place, used_places, differs_below, look_up, nodes, need}
+use Rattle.dt_pages.specs.Image.{Image, IsImage, place, used_places, differs_below, look_up, nodes_up_to, nodes, need_up_to, need}
 
 -- the words of the page are the same in both
 abbrev pub SamePage : Pages → Pages → ℕ → Type 0
@@ -45,6 +45,18 @@ DifferencesAreSeen = (old new : Image) (level at : ℕ) → (differs_below old n
 -- so at every level of every image
 abbrev pub NodesAreCounted : Type 0
 NodesAreCounted = (image : Image) (level : ℕ) → PlacesAreCounted image level
+
+-- beside the empty image each node of an image needs a page
+abbrev pub FirstNeedsAll : Type 0
+FirstNeedsAll = (image : Image) → IsImage image → need empty image ≡ nodes image
+
+-- beside the image itself none does
+abbrev pub SameNeedsNone : Type 0
+SameNeedsNone = (image : Image) → need image image ≡ 0
+
+-- and never more do than there are
+abbrev pub NeedIsAtMostNodes : Type 0
+NeedIsAtMostNodes = (old new : Image) → need old new ≤ nodes new
 
 -- where nothing is set, every address reads as 0
 abbrev pub EmptyImageIsBlank : Type 0
@@ -107,3 +119,22 @@ pub record SixPages : Type 0 where
   pub a_word_of_0_is_not_set : IsImage (from_sorted ((0, 0) ∷ [])) → ⊥
   pub nothing_is_set_past_the_last_address : IsImage (from_sorted ((134217728, 1) ∷ [])) → ⊥
   pub no_other_is_reached : (page : ℕ) → Reaches six_pages 1 page → page ≤ 6
+
+-- the image without its second word
+abbrev pub one_gone : Image
+one_gone = from_sorted ((0, 1) ∷ (16777216, 4294967298) ∷ [])
+
+-- three leaf pages stand under two middle pages under one top page; the changed word lies in the third leaf;
+-- where a word goes, its leaf needs no page, and what is above it does; where it comes again, its leaf needs one too
+pub record PlacesOfThreeWords : Type 0 where
+  pub leaves : used_places three_words 1 ≡ 0 ∷ 8 ∷ 32768 ∷ []
+  pub middles : used_places three_words 2 ≡ 0 ∷ 64 ∷ []
+  pub top : used_places three_words 3 ≡ 0 ∷ []
+  pub leaves_and_middles : nodes_up_to 2 three_words ≡ 5
+  pub changed_leaf : differs_below three_words last_changed 1 32768 ≡ true
+  pub other_leaf : differs_below three_words last_changed 1 8 ≡ false
+  pub changed_leaf_and_middle : need_up_to 2 three_words last_changed ≡ 2
+  pub a_word_goes : need three_words one_gone ≡ 2
+  pub a_word_comes : need one_gone three_words ≡ 3
+  pub a_word : look_up three_words 4096 ≡ 1
+  pub no_word : look_up three_words 4097 ≡ 0

@@ -1,7 +1,7 @@
 //! What a tree of pages shows, and what it takes to keep it.
 #![tactic(auto)]
 
-ghost use Rattle.dt_pages.specs.Laws.{EmptyImageIsBlank, SameReading, SameReach, TopIsReached, PageZeroIsBlank, PageZeroReachesItself, NodesAreCounted, DifferencesAreSeen, LevelsHoldAddresses, ImagesSetWords, NothingIsPastTheLast, SixPages};
+ghost use Rattle.dt_pages.specs.Laws.{EmptyImageIsBlank, SameReading, SameReach, TopIsReached, PageZeroIsBlank, PageZeroReachesItself, NodesAreCounted, DifferencesAreSeen, LevelsHoldAddresses, ImagesSetWords, NothingIsPastTheLast, FirstNeedsAll, SameNeedsNone, NeedIsAtMostNodes, SixPages, PlacesOfThreeWords};
 
 /// A reading depends on the words of the pages that its top page reaches, and on no other.
 pub fn reached_pages_decide()
@@ -23,6 +23,13 @@ pub fn nodes_are_counted_once()
     ensures differences { DifferencesAreSeen }
 {}
 
+/// Beside the empty image each node of an image needs a page, beside the image itself none does, and never more do than there are.
+pub fn need_is_of_nodes()
+    ensures first { FirstNeedsAll }
+    ensures same { SameNeedsNone }
+    ensures most { NeedIsAtMostNodes }
+{}
+
 /// The levels of a tree hold as many words as there are addresses, an image sets words other than 0 at these alone, and
 /// past the last of them both read as 0.
 pub fn addresses_are_held()
@@ -34,4 +41,9 @@ pub fn addresses_are_held()
 /// An example: an image of three words takes six pages, and they show it.
 pub fn six_pages_show_three_words()
     ensures { SixPages }
+{}
+
+/// The same image: where its nodes stand, and what a word that changes, goes or comes needs.
+pub fn nodes_of_three_words()
+    ensures { PlacesOfThreeWords }
 {}
