@@ -13,3 +13,6 @@ pub mod Busy
 pub mod Unsound
 pub mod Effects
 pub mod Allowed
+pub mod Parts
+pub mod Changes
+pub mod SweepExamples
