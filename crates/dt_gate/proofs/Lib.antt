@@ -16,5 +16,7 @@ pub mod SmallRuns
 pub mod Staying
 pub mod ReaderLaws
 pub mod Places
+pub mod Room
+pub mod BetweenPolls
 pub mod Sweeping
 pub mod Bounds

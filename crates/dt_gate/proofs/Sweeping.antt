@@ -1,57 +1,28 @@
 -- A sweep over all old roots finds each of them held or frees it, and so leaves a free root.
-use Rattle.std.proofs.Common.{◌≡◌, ◌≢◌, ◌⊎◌, ℕ, suc, ◌+◌, ◌<◌, ◌≤◌, ◌==◌, ◌||◌, Bool, true, false, cond, List, [], ◌∷◌, ◌++◌, length, get_or, count_by, refl, sym, ap, subst, ◌∙◌, inl, inr, arith, eqb-true, true≢false}
-use Rattle.std.proofs.lemmas.List.Sums.{sum_by-cons}
+use Rattle.std.proofs.Common.{◌≡◌, ◌≢◌, ◌⊎◌, ℕ, ◌<◌, ◌==◌, ◌||◌, Bool, true, false, List, [], ◌∷◌, ◌++◌, length, refl, sym, ap, subst, ◌∙◌, inl, inr, arith, eqb-true, true≢false}
 use Rattle.std.proofs.lemmas.List.Folds.{list_any-append}
 use Rattle.std.proofs.lemmas.List.{get_or-set_same}
+use Rattle.std.specs.List.{AllByRecursion}
 use Rattle.dt_pages.specs.Reading.{Reading}
+use Rattle.dt_gate.specs.declared.event.Event.{Event}
+use Rattle.dt_gate.specs.declared.event.Event.TheVariants.{Poll}
 use Rattle.dt_gate.specs.declared.gate.Gate.{Gate}
 use Rattle.dt_gate.specs.declared.gate.Root.{Root}
-use Rattle.dt_gate.specs.declared.gate.Standing.{Standing}
-use Rattle.dt_gate.specs.declared.gate.Standing.TheVariants.{Free, Now, Old}
+use Rattle.dt_gate.specs.declared.gate.Standing.TheVariants.{Old}
 use Rattle.dt_gate.specs.Gate.{Numbers, IsLive, blank_root, root_at}
-use Rattle.dt_gate.specs.Events.{with_root, IsOld, is_new_sweep, after_poll}
+use Rattle.dt_gate.specs.Events.{with_root, IsOld, is_new_sweep, after_poll, step}
 use Rattle.dt_gate.specs.Counts.{is_old}
 use Rattle.dt_gate.specs.Runs.{after, AreAllowed}
-use Rattle.dt_gate.specs.Sweeps.{AreDistinct, sweep_over, old_roots, IsSweep, SweepLeavesRoom, PollDecides}
+use Rattle.dt_gate.specs.Sweeps.{AreDistinct, poll_of, polled_roots, IsOfSweep, IsSweep, SweepLeavesRoom, PollDecides}
 use Rattle.dt_gate.proofs.Kept.{Kept}
 use Rattle.dt_gate.proofs.Lists.{at_change}
 use Rattle.dt_gate.proofs.Seats.{root_here}
 use Rattle.dt_gate.proofs.Roots.{old_is, freed_root, polled, polled_anew, poll_leads}
+use Rattle.dt_gate.proofs.Steps.{kept_step}
 use Rattle.dt_gate.proofs.Running.{kept_after}
-use Rattle.dt_gate.proofs.Places.{stands_in, or_of, in_cons, in_head, in_tail, or_first, or_second, count_places}
-
-abbrev is_current : Standing → Bool
-is_current Free = false
-is_current Now = true
-is_current (Old entries) = false
-
-is_current_now : (standing : Standing) → is_current standing ≡ true → standing ≡ Now
-is_current_now Free is = absurd (true≢false (sym is))
-is_current_now Now is = refl
-is_current_now (Old entries) is = absurd (true≢false (sym is))
-
--- some root is free, or all are current or old
-free_or_none : (roots : List Root) → ((root : ℕ) × (root < length roots) × ((get_or roots root blank_root).standing ≡ Free))
-    ⊎ (length roots ≤ count_by (λ r. is_old r.standing) roots + count_by (λ r. is_current r.standing) roots)
-free_or_none [] = inr (omega arith)
-free_or_none (r ∷ roots) = go r.standing refl (free_or_none roots)
-  where
-    Found : List Root → Type 0
-    Found roots = (root : ℕ) × (root < length roots) × ((get_or roots root blank_root).standing ≡ Free)
-
-    Counts : List Root → Type 0
-    Counts roots = length roots ≤ count_by (λ r. is_old r.standing) roots + count_by (λ r. is_current r.standing) roots
-
-    more : length roots ≤ count_by (λ r. is_old r.standing) roots + count_by (λ r. is_current r.standing) roots
-        → 1 ≤ cond {A = ℕ} (is_old r.standing) 1 0 + cond {A = ℕ} (is_current r.standing) 1 0 → Counts (r ∷ roots)
-    more counts one = omega (arith, counts, one, sum_by-cons (λ (x : Root). cond {A = ℕ} (is_old x.standing) 1 0) r roots, sum_by-cons (λ (x : Root). cond {A = ℕ} (is_current x.standing) 1 0) r roots)
-
-    go : (standing : Standing) → r.standing ≡ standing → Found roots ⊎ Counts roots → Found (r ∷ roots) ⊎ Counts (r ∷ roots)
-    go Free is rest = inl (0, omega arith, is)
-    go Now is (inl found) = inl (suc found.0, omega (arith, found.1), found.2)
-    go Now is (inr counts) = inr (more counts (subst (λ st. 1 ≤ cond {A = ℕ} (is_old st) 1 0 + cond {A = ℕ} (is_current st) 1 0) (sym is) (omega arith)))
-    go (Old entries) is (inl found) = inl (suc found.0, omega (arith, found.1), found.2)
-    go (Old entries) is (inr counts) = inr (more counts (subst (λ st. 1 ≤ cond {A = ℕ} (is_old st) 1 0 + cond {A = ℕ} (is_current st) 1 0) (sym is) (omega arith)))
+use Rattle.dt_gate.proofs.Room.{room}
+use Rattle.dt_gate.proofs.BetweenPolls.{IsLike, like_after, begins_like}
+use Rattle.dt_gate.proofs.Places.{stands_in, or_of, in_cons, in_head, in_tail, or_first, or_second}
 
 none_of_empty : (x : ℕ) (held : List ℕ) → (length held == 0) ≡ true → stands_in x held ≡ false
 none_of_empty x [] is = refl
@@ -148,6 +119,19 @@ module _ {M E : Type 0} where
       empty : is_new_sweep gate root ≡ true → (x : ℕ) → stands_in x gate.held ≡ false
       empty is x = pick x (or_of (length gate.held == 0) (stands_in root gate.held) is)
 
+  -- an event between the polls
+  sweeping_like : (begun : Gate M E) (done : List ℕ) (gate next : Gate M E) → IsLike gate next → IsSweeping begun done gate → IsSweeping begun done next
+  sweeping_like begun done gate next like so_far = record {
+    old_are_held = λ root old is. subst (λ held. stands_in root held ≡ true) (sym like.held) (so_far.old_are_held root (was_old root old) is);
+    held_are_done = λ root held. so_far.held_are_done root (subst (λ held. stands_in root held ≡ true) like.held held);
+    count = like.sweep ∙ so_far.count;
+    out = like.out ∙ so_far.out;
+    were_old = λ root old. so_far.were_old root (was_old root old);
+  }
+    where
+      was_old : (root : ℕ) → is_old (root_at next root).standing ≡ true → is_old (root_at gate root).standing ≡ true
+      was_old root old = subst (λ standing. is_old standing ≡ true) (like.standings root) old
+
   -- the whole sweep
   pub record IsSwept (begun : Gate M E) (done roots : List ℕ) (gate : Gate M E) : Type 0 where
     pub all_done : List ℕ
@@ -156,79 +140,85 @@ module _ {M E : Type 0} where
     pub before : (root : ℕ) → stands_in root done ≡ true → stands_in root all_done ≡ true
 
   module _ (shows : Reading → List E → Type 0) (numbers : Numbers) where
-    swept_all : (roots : List ℕ) (begun : Gate M E) (done : List ℕ) (gate : Gate M E) → IsSweeping begun done gate → AreDistinct roots
-        → ((root : ℕ) → stands_in root roots ≡ true → stands_in root done ≡ false) → AreAllowed shows numbers gate (sweep_over roots)
-        → IsSwept begun done roots (after numbers gate (sweep_over roots))
-    swept_all [] begun done gate so_far distinct new allowed = record { all_done = done; sweeping = so_far; these = λ root is. absurd (true≢false (sym is)); before = λ root is. is }
-    swept_all (first ∷ roots) begun done gate so_far distinct new allowed =
-        let rest = swept_all roots begun (first ∷ done) (after_poll gate first) (sweeping_next begun done gate first so_far (new first (in_head first first roots refl)) allowed.0)
-        distinct.1 later allowed.1 in
+    swept_all : (events : List (Event M E)) (begun : Gate M E) (done : List ℕ) (gate : Gate M E) → IsSweeping begun done gate → AreDistinct (polled_roots events)
+        → ((root : ℕ) → stands_in root (polled_roots events) ≡ true → stands_in root done ≡ false) → AllByRecursion IsOfSweep events → AreAllowed shows numbers gate events
+        → IsSwept begun done (polled_roots events) (after numbers gate events)
+    swept_all [] begun done gate so_far distinct new of_sweep allowed = record { all_done = done; sweeping = so_far; these = λ root is. absurd (true≢false (sym is)); before = λ root is. is }
+    swept_all (Poll first ∷ events) begun done gate so_far distinct new of_sweep allowed =
+        let rest = swept_all events begun (first ∷ done) (after_poll gate first) (sweeping_next begun done gate first so_far (new first (in_head first first (polled_roots events) refl)) allowed.0)
+        distinct.1 later of_sweep.1 allowed.1 in
         record {
           all_done = rest.all_done;
           sweeping = rest.sweeping;
-          these = λ root is. which rest root (in_cons first root roots is);
+          these = λ root is. which rest root (in_cons first root (polled_roots events) is);
           before = λ root is. rest.before root (in_tail first root done is);
         }
       where
-        later : (root : ℕ) → stands_in root roots ≡ true → stands_in root (first ∷ done) ≡ false
-        later root is = neither (first == root) (stands_in root done) (λ same. apart (eqb-true first root same)) (new root (in_tail first root roots is))
+        later : (root : ℕ) → stands_in root (polled_roots events) ≡ true → stands_in root (first ∷ done) ≡ false
+        later root is = neither (first == root) (stands_in root done) (λ same. apart (eqb-true first root same)) (new root (in_tail first root (polled_roots events) is))
           where
             apart : ¬ (first ≡ root)
-            apart same = true≢false (sym is ∙ ap (λ k. stands_in k roots) (sym same) ∙ distinct.0)
+            apart same = true≢false (sym is ∙ ap (λ k. stands_in k (polled_roots events)) (sym same) ∙ distinct.0)
 
             neither : (a b : Bool) → ¬ (a ≡ true) → b ≡ false → (a || b) ≡ false
             neither true b n e = absurd (n refl)
             neither false b n e = e
 
-        which : (rest : IsSwept begun (first ∷ done) roots (after numbers (after_poll gate first) (sweep_over roots))) (root : ℕ) → (first ≡ root) ⊎ (stands_in root roots ≡ true)
+        which : (rest : IsSwept begun (first ∷ done) (polled_roots events) (after numbers (after_poll gate first) events)) (root : ℕ) → (first ≡ root) ⊎ (stands_in root (polled_roots events) ≡ true)
             → stands_in root rest.all_done ≡ true
         which rest root (inl same) = rest.before root (in_head first root done same)
         which rest root (inr is) = rest.these root is
+    swept_all (event ∷ events) begun done gate so_far distinct new of_sweep allowed =
+        swept_all events begun done (step numbers gate event) (sweeping_like begun done gate (step numbers gate event) (like_after numbers gate event of_sweep.0 refl) so_far)
+        distinct new of_sweep.1 allowed.1
 
-    -- where a list names every old root, and is no longer than the readers out, some root is free
-    room : (gate : Gate M E) → Kept shows numbers gate → (names : List ℕ) → ((root : ℕ) → is_old (root_at gate root).standing ≡ true → stands_in root names ≡ true)
-        → length names ≤ gate.out → SweepLeavesRoom numbers gate
-    room gate kept names named short = record { still_old = omega (arith, old, short); some_free = found (free_or_none gate.roots) }
-      where
-        at_zero : (names : List ℕ) (root : ℕ) → stands_in root names ≡ true → stands_in (0 + root) names ≡ true
-        at_zero names root is = let same : root ≡ 0 + root = omega arith in subst (λ k. stands_in k names ≡ true) same is
-
-        old : old_roots gate ≤ length names
-        old = count_places (λ (r : Root). is_old r.standing) blank_root gate.roots 0 names (λ root below is. at_zero names root (named root is))
-
-        current : count_by (λ (r : Root). is_current r.standing) gate.roots ≤ 1
-        current = count_places (λ (r : Root). is_current r.standing) blank_root gate.roots 0 (gate.current ∷ [])
-            (λ root below is. at_zero (gate.current ∷ []) root (in_head gate.current root [] (sym (kept.counted.one.no_other root (is_current_now (root_at gate root).standing is)))))
-
-        found : ((root : ℕ) × (root < length gate.roots) × ((root_at gate root).standing ≡ Free))
-            ⊎ (length gate.roots ≤ count_by (λ (r : Root). is_old r.standing) gate.roots + count_by (λ (r : Root). is_current r.standing) gate.roots)
-            → (root : ℕ) × (root < numbers.readers + 2) × ((root_at gate root).standing ≡ Free)
-        found (inl free) = (free.0, subst (λ n. free.0 < n) kept.counted.roots free.1, free.2)
-        found (inr full) = absurd (omega (arith, full, kept.counted.roots, old, current, short, kept.counted.bounded.readers_out))
-
-    pub sweep_leaves_room : (gate : Gate M E) (roots : List ℕ) → Kept shows numbers gate → IsSweep shows numbers gate roots → SweepLeavesRoom numbers (after numbers gate (sweep_over roots))
-    sweep_leaves_room gate [] kept sweep = room gate kept [] sweep.every_old_root (omega arith)
-    sweep_leaves_room gate (first ∷ roots) kept sweep =
-        let swept = swept_all roots gate (first ∷ []) (after_poll gate first) (sweeping_first gate first sweep.anew sweep.allowed.0) sweep.each_once.1 later sweep.allowed.1 in
-        room next kept_next next.held (λ root is. swept.sweeping.old_are_held root is (polled swept root (in_cons first root roots (sweep.every_old_root root (swept.sweeping.were_old root is)))))
-        (omega (arith, kept_next.counted.sweep.held, swept.sweeping.count, swept.sweeping.out))
+    -- from the first poll on
+    swept : (first : ℕ) (events : List (Event M E)) (gate : Gate M E) → Kept shows numbers gate → IsSweep shows numbers gate (Poll first ∷ events)
+        → SweepLeavesRoom numbers (after numbers gate (Poll first ∷ events))
+    swept first events gate kept sweep =
+        let all = swept_all events gate (first ∷ []) (after_poll gate first) (sweeping_first gate first sweep.anew sweep.allowed.0) sweep.each_once.1 later sweep.nothing_else.1 sweep.allowed.1 in
+        room shows numbers next kept_next next.held (λ root is. all.sweeping.old_are_held root is (polled_once all root (in_cons first root (polled_roots events) (sweep.every_old_root root (all.sweeping.were_old root is)))))
+        (omega (arith, kept_next.counted.sweep.held, all.sweeping.count, all.sweeping.out))
       where
         next : Gate M E
-        next = after numbers gate (sweep_over (first ∷ roots))
+        next = after numbers gate (Poll first ∷ events)
 
         kept_next : Kept shows numbers next
-        kept_next = kept_after shows numbers (sweep_over (first ∷ roots)) gate kept sweep.allowed
+        kept_next = kept_after shows numbers (Poll first ∷ events) gate kept sweep.allowed
 
-        later : (root : ℕ) → stands_in root roots ≡ true → stands_in root (first ∷ []) ≡ false
-        later root is = neither (first == root) (λ same. true≢false (sym is ∙ ap (λ k. stands_in k roots) (sym (eqb-true first root same)) ∙ sweep.each_once.0))
+        later : (root : ℕ) → stands_in root (polled_roots events) ≡ true → stands_in root (first ∷ []) ≡ false
+        later root is = neither (first == root) (λ same. true≢false (sym is ∙ ap (λ k. stands_in k (polled_roots events)) (sym (eqb-true first root same)) ∙ sweep.each_once.0))
           where
             neither : (a : Bool) → ¬ (a ≡ true) → (a || false) ≡ false
             neither true n = absurd (n refl)
             neither false n = refl
 
-        polled : (swept : IsSwept gate (first ∷ []) roots next) (root : ℕ) → (first ≡ root) ⊎ (stands_in root roots ≡ true) → stands_in root swept.all_done ≡ true
-        polled swept root (inl same) = swept.before root (in_head first root [] same)
-        polled swept root (inr is) = swept.these root is
+        polled_once : (all : IsSwept gate (first ∷ []) (polled_roots events) next) (root : ℕ) → (first ≡ root) ⊎ (stands_in root (polled_roots events) ≡ true) → stands_in root all.all_done ≡ true
+        polled_once all root (inl same) = all.before root (in_head first root [] same)
+        polled_once all root (inr is) = all.these root is
+
+    -- an event that polls nothing leaves the rest of a sweep one
+    rest_of_sweep : (event : Event M E) (events : List (Event M E)) (gate : Gate M E) → poll_of event ≡ [] → IsSweep shows numbers gate (event ∷ events)
+        → IsSweep shows numbers (step numbers gate event) events
+    rest_of_sweep (Poll root) events gate none sweep = absurd (poll_is_some none)
+      where
+        poll_is_some : ¬ (root ∷ [] ≡ [])
+        poll_is_some is = cc
+    rest_of_sweep event events gate none sweep =
+        let like = like_after numbers gate event sweep.nothing_else.0 refl in
+        record {
+          allowed = sweep.allowed.1;
+          nothing_else = sweep.nothing_else.1;
+          each_once = sweep.each_once;
+          every_old_root = λ root is. sweep.every_old_root root (subst (λ standing. is_old standing ≡ true) (like.standings root) is);
+          anew = begins_like gate (step numbers gate event) like (polled_roots events) sweep.anew;
+        }
+
+    pub sweep_leaves_room : (events : List (Event M E)) (gate : Gate M E) → Kept shows numbers gate → IsSweep shows numbers gate events → SweepLeavesRoom numbers (after numbers gate events)
+    sweep_leaves_room [] gate kept sweep = room shows numbers gate kept [] sweep.every_old_root (omega arith)
+    sweep_leaves_room (Poll first ∷ events) gate kept sweep = swept first events gate kept sweep
+    sweep_leaves_room (event ∷ events) gate kept sweep =
+        sweep_leaves_room events (step numbers gate event) (kept_step shows numbers gate event kept sweep.allowed.0) (rest_of_sweep event events gate refl sweep)
 
 -- a poll of an old root frees it, or finds it held
 module _ {M E : Type 0} where

@@ -1,12 +1,14 @@
 -- Sweeps and polls of the busy gate, and of gates that differ from it in one thing.
-use Rattle.std.specs.Prelude.{◌≡◌, ℕ, zero, suc, ◌<◌, ◌≤◌, Bool, true, false, [], ◌∷◌, length, refl}
+use Rattle.std.specs.Prelude.{◌≡◌, ℕ, zero, suc, ◌<◌, ◌≤◌, ◌==◌, Bool, true, false, [], ◌∷◌, length, refl}
 use Rattle.std.proofs.Common.{ap, arith}
-use Rattle.dt_gate.specs.declared.event.Event.TheVariants.{Poll}
+use Rattle.dt_gate.specs.declared.event.Event.TheVariants.{Look, Enter, Leave, Poll, SeatOut, SeatBack}
 use Rattle.dt_gate.specs.declared.gate.Gate.{Gate}
 use Rattle.dt_gate.specs.declared.gate.Standing.{Standing}
 use Rattle.dt_gate.specs.declared.gate.Standing.TheVariants.{Free, Now, Old}
+use Rattle.std.specs.List.{list_any}
 use Rattle.dt_gate.specs.Gate.{root_at}
-use Rattle.dt_gate.specs.Sweeps.{AreDistinct, sweep_over, BeginsAnew, old_roots, IsSweep, SweepLeavesRoom, PollDecides}
+use Rattle.dt_gate.specs.Counts.{is_old}
+use Rattle.dt_gate.specs.Sweeps.{AreDistinct, polled_roots, BeginsAnew, old_roots, IsSweep, SweepLeavesRoom, PollDecides}
 use Rattle.dt_gate.specs.WrongMachines.{anything}
 use Rattle.dt_gate.specs.Busy.{two, busy, old_root, current_root, laid_root}
 
@@ -16,8 +18,8 @@ each_once = (refl, (refl, (refl, tt)))
 one_twice : ¬ AreDistinct (0 ∷ 2 ∷ 0 ∷ [])
 one_twice distinct = let is : ◌≡◌ {A = Bool} true false = distinct.0 in cc
 
-the_polls_of_a_sweep : sweep_over {M = ℕ} {E = ℕ} (2 ∷ 0 ∷ []) ≡ Poll 2 ∷ Poll 0 ∷ []
-the_polls_of_a_sweep = refl
+the_roots_that_are_polled : polled_roots {M = ℕ} {E = ℕ} (Poll 2 ∷ Leave 0 ∷ Poll 0 ∷ Look 1 ∷ []) ≡ 2 ∷ 0 ∷ []
+the_roots_that_are_polled = refl
 
 where_a_sweep_begins : BeginsAnew (record busy { held = [] }) (0 ∷ []) × BeginsAnew busy (0 ∷ [])
 where_a_sweep_begins = (refl, refl)
@@ -35,17 +37,40 @@ three_old = record busy { roots = old_root ∷ current_root ∷ record old_root 
 three_roots_are_old : old_roots three_old ≡ 3
 three_roots_are_old = refl
 
-a_sweep_that_misses_a_root : ¬ IsSweep anything two three_old (0 ∷ 2 ∷ [])
+a_sweep_that_misses_a_root : ¬ IsSweep anything two three_old (Poll 0 ∷ Poll 2 ∷ [])
 a_sweep_that_misses_a_root sweep = let is : ◌≡◌ {A = Bool} false true = sweep.every_old_root 3 refl in cc
 
-a_sweep_that_polls_twice : ¬ IsSweep anything two busy (0 ∷ 0 ∷ [])
+a_sweep_that_polls_twice : ¬ IsSweep anything two busy (Poll 0 ∷ Poll 0 ∷ [])
 a_sweep_that_polls_twice sweep = let is : ◌≡◌ {A = Bool} true false = sweep.each_once.0 in cc
 
-a_sweep_that_polls_the_current_root : ¬ IsSweep anything two busy (0 ∷ 1 ∷ [])
+a_sweep_that_polls_the_current_root : ¬ IsSweep anything two busy (Poll 0 ∷ Poll 1 ∷ [])
 a_sweep_that_polls_the_current_root sweep = sweep.allowed.1.0
 
-a_sweep_that_goes_on : ¬ IsSweep anything two (record busy { held = 2 ∷ [] }) (0 ∷ [])
+a_sweep_that_goes_on : ¬ IsSweep anything two (record busy { held = 2 ∷ [] }) (Poll 0 ∷ [])
 a_sweep_that_goes_on sweep = let is : ◌≡◌ {A = Bool} false true = sweep.anew in cc
+
+a_sweep_with_a_seat_back : ¬ IsSweep anything two busy (Poll 0 ∷ SeatBack 1 ∷ [])
+a_sweep_with_a_seat_back sweep = sweep.nothing_else.1.0
+
+a_sweep_with_a_seat_out : ¬ IsSweep anything two busy (SeatOut ∷ Poll 0 ∷ [])
+a_sweep_with_a_seat_out sweep = sweep.nothing_else.0
+
+-- readers look, enter and leave while the one old root is polled
+a_sweep_amid_readers : IsSweep anything two busy (Look 1 ∷ Poll 0 ∷ Enter 1 ∷ Leave 0 ∷ [])
+a_sweep_amid_readers = record {
+  allowed = (refl, (tt, (refl, (tt, tt))));
+  nothing_else = (tt, (tt, (tt, (tt, tt))));
+  each_once = (refl, tt);
+  every_old_root = only;
+  anew = refl;
+}
+  where
+    only : (root : ℕ) → is_old (root_at busy root).standing ≡ true → list_any (λ other. other == root) (0 ∷ []) ≡ true
+    only zero old = refl
+    only (suc zero) old = let never : ◌≡◌ {A = Bool} false true = old in cc
+    only (suc (suc zero)) old = let never : ◌≡◌ {A = Bool} false true = old in cc
+    only (suc (suc (suc zero))) old = let never : ◌≡◌ {A = Bool} false true = old in cc
+    only (suc (suc (suc (suc root)))) old = let never : ◌≡◌ {A = Bool} false true = old in cc
 
 more_old_roots_than_readers : ¬ SweepLeavesRoom two (record busy { out = 0 })
 more_old_roots_than_readers room = let is : 1 ≤ 0 = room.still_old in absurd (omega (arith, is))

@@ -1,9 +1,9 @@
--- What a sweep over all old roots leaves.
-use Rattle.std.specs.Prelude.{◌≡◌, ◌≢◌, ℕ, ◌+◌, ◌<◌, ◌≤◌, ◌==◌, true, false, List, [], ◌∷◌, ◌++◌, map, count_by, ⊤}
-use Rattle.std.specs.List.{list_any}
+-- What a sweep over all old roots leaves, whatever readers do between its polls.
+use Rattle.std.specs.Prelude.{◌≡◌, ◌≢◌, ℕ, ◌+◌, ◌<◌, ◌≤◌, ◌==◌, true, false, List, [], ◌∷◌, ◌++◌, count_by, ⊤}
+use Rattle.std.specs.List.{list_any, AllByRecursion}
 use Rattle.dt_pages.specs.Reading.{Reading}
 use Rattle.dt_gate.specs.declared.event.Event.{Event}
-use Rattle.dt_gate.specs.declared.event.Event.TheVariants.{Poll}
+use Rattle.dt_gate.specs.declared.event.Event.TheVariants.{Publish, Poll, SeatOut, SeatBack}
 use Rattle.dt_gate.specs.declared.gate.Gate.{Gate}
 use Rattle.dt_gate.specs.declared.gate.Standing.TheVariants.{Free, Old}
 use Rattle.dt_gate.specs.Gate.{Numbers, root_at}
@@ -17,9 +17,22 @@ AreDistinct [] = ⊤
 AreDistinct (root ∷ roots) = (list_any (λ other. other == root) roots ≡ false) × AreDistinct roots
 
 module _ {M E : Type 0} where
-  -- the polls of a sweep over these roots, in this order
-  abbrev pub sweep_over : List ℕ → List (Event M E)
-  sweep_over roots = map (λ root. Poll root) roots
+  -- the root that an event polls
+  abbrev pub poll_of : Event M E → List ℕ
+  poll_of (Poll root) = root ∷ []
+  poll_of event = []
+
+  -- the roots that these events poll, in their order
+  abbrev pub polled_roots : List (Event M E) → List ℕ
+  polled_roots [] = []
+  polled_roots (event ∷ events) = poll_of event ++ polled_roots events
+
+  -- the event publishes nothing, and gives no reader seat out or back: so it may stand in a sweep, beside the polls
+  abbrev pub IsOfSweep : Event M E → Type 0
+  IsOfSweep (Publish root entry) = ⊥
+  IsOfSweep SeatOut = ⊥
+  IsOfSweep (SeatBack seat) = ⊥
+  IsOfSweep event = ⊤
 
   -- the first poll begins a new sweep
   abbrev pub BeginsAnew : Gate M E → List ℕ → Type 0
@@ -30,14 +43,15 @@ module _ {M E : Type 0} where
   abbrev pub old_roots : Gate M E → ℕ
   old_roots gate = count_by (λ root. is_old root.standing) gate.roots
 
-  -- a sweep polls each old root once, and begins anew with its first poll
+  -- a sweep polls each old root once, and begins anew with its first poll; readers may step between the polls
   pub record IsSweep (shows : Reading → List E → Type 0) (numbers : Numbers) (gate : Gate M E)
-      (roots : List ℕ) : Type 0 where
-    pub allowed : AreAllowed shows numbers gate (sweep_over roots)
-    pub each_once : AreDistinct roots
+      (events : List (Event M E)) : Type 0 where
+    pub allowed : AreAllowed shows numbers gate events
+    pub nothing_else : AllByRecursion IsOfSweep events
+    pub each_once : AreDistinct (polled_roots events)
     pub every_old_root : (root : ℕ) → is_old (root_at gate root).standing ≡ true
-        → list_any (λ other. other == root) roots ≡ true
-    pub anew : BeginsAnew gate roots
+        → list_any (λ other. other == root) (polled_roots events) ≡ true
+    pub anew : BeginsAnew gate (polled_roots events)
 
   -- the roots that are still old are no more than the readers out, and some root is free
   pub record SweepLeavesRoom (numbers : Numbers) (gate : Gate M E) : Type 0 where
@@ -57,8 +71,8 @@ PollsDecide M E numbers = (gate : Gate M E) (root entries : ℕ) → (root_at ga
     → PollDecides gate root entries (step numbers gate (Poll root))
 
 module _ (M : Type 0) {E : Type 0} (shows : Reading → List E → Type 0) (numbers : Numbers) where
-  -- every sweep leaves a free root
+  -- every sweep leaves a free root, whatever readers do between its polls
   abbrev pub SweepsLeaveRoom : Type 0
-  SweepsLeaveRoom = (gate : Gate M E) (roots : List ℕ) → IsReached shows numbers gate
-      → IsSweep shows numbers gate roots
-      → SweepLeavesRoom numbers (after numbers gate (sweep_over roots))
+  SweepsLeaveRoom = (gate : Gate M E) (events : List (Event M E)) → IsReached shows numbers gate
+      → IsSweep shows numbers gate events
+      → SweepLeavesRoom numbers (after numbers gate events)

@@ -74,7 +74,8 @@ pub fn a_poll_decides<M: Meaning>(readers: u16, pages: u32, entries: u64)
     ensures { PollsDecide M M.Entry (limits readers pages entries) }
 {}
 
-/// A sweep over all old roots leaves a root free, and no more roots old than readers are out.
+/// A sweep over all old roots leaves a root free, and no more roots old than readers are out, whatever readers do between
+/// its polls.
 pub fn a_sweep_leaves_room<M: Meaning>(readers: u16, pages: u32, entries: u64)
     requires numbers { InRange (limits readers pages entries) }
     requires empty { M.shows blank [] }

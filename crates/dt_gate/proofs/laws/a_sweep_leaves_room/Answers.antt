@@ -4,6 +4,6 @@ use Rattle.dt_gate.proofs.Sweeping.{sweep_leaves_room}
 use Rattle.dt_gate.proofs.laws.a_sweep_leaves_room.Goals as goal
 
 pub returns : goal.returns
-returns g c = λ gate roots reached.
-    sweep_leaves_room g.M.Meaning.shows (limits c.args.readers c.args.pages c.args.entries) gate roots
+returns g c = λ gate events reached.
+    sweep_leaves_room g.M.Meaning.shows (limits c.args.readers c.args.pages c.args.entries) events gate
     (reached_is_kept g.M.Meaning.shows (limits c.args.readers c.args.pages c.args.entries) c.requires.numbers c.requires.empty gate reached)

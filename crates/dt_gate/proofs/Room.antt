@@ -1,0 +1,68 @@
+-- Where a short list names every old root, some root is free.
+use Rattle.std.proofs.Common.{◌≡◌, ◌⊎◌, ℕ, suc, ◌+◌, ◌<◌, ◌≤◌, Bool, true, false, cond, List, [], ◌∷◌, length, get_or, count_by, refl, sym, subst, inl, inr, arith, true≢false}
+use Rattle.std.proofs.lemmas.List.Sums.{sum_by-cons}
+use Rattle.dt_pages.specs.Reading.{Reading}
+use Rattle.dt_gate.specs.declared.gate.Gate.{Gate}
+use Rattle.dt_gate.specs.declared.gate.Root.{Root}
+use Rattle.dt_gate.specs.declared.gate.Standing.{Standing}
+use Rattle.dt_gate.specs.declared.gate.Standing.TheVariants.{Free, Now, Old}
+use Rattle.dt_gate.specs.Gate.{Numbers, blank_root, root_at}
+use Rattle.dt_gate.specs.Counts.{is_old}
+use Rattle.dt_gate.specs.Sweeps.{old_roots, SweepLeavesRoom}
+use Rattle.dt_gate.proofs.Kept.{Kept}
+use Rattle.dt_gate.proofs.Places.{stands_in, in_head, count_places}
+
+abbrev is_current : Standing → Bool
+is_current Free = false
+is_current Now = true
+is_current (Old entries) = false
+
+is_current_now : (standing : Standing) → is_current standing ≡ true → standing ≡ Now
+is_current_now Free is = absurd (true≢false (sym is))
+is_current_now Now is = refl
+is_current_now (Old entries) is = absurd (true≢false (sym is))
+
+-- some root is free, or all are current or old
+free_or_none : (roots : List Root) → ((root : ℕ) × (root < length roots) × ((get_or roots root blank_root).standing ≡ Free))
+    ⊎ (length roots ≤ count_by (λ r. is_old r.standing) roots + count_by (λ r. is_current r.standing) roots)
+free_or_none [] = inr (omega arith)
+free_or_none (r ∷ roots) = go r.standing refl (free_or_none roots)
+  where
+    Found : List Root → Type 0
+    Found roots = (root : ℕ) × (root < length roots) × ((get_or roots root blank_root).standing ≡ Free)
+
+    Counts : List Root → Type 0
+    Counts roots = length roots ≤ count_by (λ r. is_old r.standing) roots + count_by (λ r. is_current r.standing) roots
+
+    more : length roots ≤ count_by (λ r. is_old r.standing) roots + count_by (λ r. is_current r.standing) roots
+        → 1 ≤ cond {A = ℕ} (is_old r.standing) 1 0 + cond {A = ℕ} (is_current r.standing) 1 0 → Counts (r ∷ roots)
+    more counts one = omega (arith, counts, one, sum_by-cons (λ (x : Root). cond {A = ℕ} (is_old x.standing) 1 0) r roots, sum_by-cons (λ (x : Root). cond {A = ℕ} (is_current x.standing) 1 0) r roots)
+
+    go : (standing : Standing) → r.standing ≡ standing → Found roots ⊎ Counts roots → Found (r ∷ roots) ⊎ Counts (r ∷ roots)
+    go Free is rest = inl (0, omega arith, is)
+    go Now is (inl found) = inl (suc found.0, omega (arith, found.1), found.2)
+    go Now is (inr counts) = inr (more counts (subst (λ st. 1 ≤ cond {A = ℕ} (is_old st) 1 0 + cond {A = ℕ} (is_current st) 1 0) (sym is) (omega arith)))
+    go (Old entries) is (inl found) = inl (suc found.0, omega (arith, found.1), found.2)
+    go (Old entries) is (inr counts) = inr (more counts (subst (λ st. 1 ≤ cond {A = ℕ} (is_old st) 1 0 + cond {A = ℕ} (is_current st) 1 0) (sym is) (omega arith)))
+
+module _ {M E : Type 0} (shows : Reading → List E → Type 0) (numbers : Numbers) where
+  -- where a list names every old root, and is no longer than the readers out, some root is free
+  pub room : (gate : Gate M E) → Kept shows numbers gate → (names : List ℕ) → ((root : ℕ) → is_old (root_at gate root).standing ≡ true → stands_in root names ≡ true)
+      → length names ≤ gate.out → SweepLeavesRoom numbers gate
+  room gate kept names named short = record { still_old = omega (arith, old, short); some_free = found (free_or_none gate.roots) }
+    where
+      at_zero : (names : List ℕ) (root : ℕ) → stands_in root names ≡ true → stands_in (0 + root) names ≡ true
+      at_zero names root is = let same : root ≡ 0 + root = omega arith in subst (λ k. stands_in k names ≡ true) same is
+
+      old : old_roots gate ≤ length names
+      old = count_places (λ (r : Root). is_old r.standing) blank_root gate.roots 0 names (λ root below is. at_zero names root (named root is))
+
+      current : count_by (λ (r : Root). is_current r.standing) gate.roots ≤ 1
+      current = count_places (λ (r : Root). is_current r.standing) blank_root gate.roots 0 (gate.current ∷ [])
+          (λ root below is. at_zero (gate.current ∷ []) root (in_head gate.current root [] (sym (kept.counted.one.no_other root (is_current_now (root_at gate root).standing is)))))
+
+      found : ((root : ℕ) × (root < length gate.roots) × ((root_at gate root).standing ≡ Free))
+          ⊎ (length gate.roots ≤ count_by (λ (r : Root). is_old r.standing) gate.roots + count_by (λ (r : Root). is_current r.standing) gate.roots)
+          → (root : ℕ) × (root < numbers.readers + 2) × ((root_at gate root).standing ≡ Free)
+      found (inl free) = (free.0, subst (λ n. free.0 < n) kept.counted.roots free.1, free.2)
+      found (inr full) = absurd (omega (arith, full, kept.counted.roots, old, current, short, kept.counted.bounded.readers_out))
