@@ -1,5 +1,5 @@
 -- What an event that polls nothing leaves of a sweep.
-use Rattle.std.proofs.Common.{◌≡◌, ℕ, ◌==◌, ◌||◌, List, [], ◌∷◌, length, refl, sym, ap, ◌∙◌}
+use Rattle.std.proofs.Common.{◌≡◌, ℕ, ◌==◌, ◌||◌, List, [], ◌∷◌, length, refl, ap, ◌∙◌}
 use Rattle.std.specs.List.{list_any}
 use Rattle.dt_gate.specs.declared.event.Event.{Event}
 use Rattle.dt_gate.specs.declared.event.Event.TheVariants.{Leave, Lay, Publish, Poll, SeatOut, SeatBack, NoteBack}
@@ -9,10 +9,10 @@ use Rattle.dt_gate.specs.declared.gate.Gate.{Gate}
 use Rattle.dt_gate.specs.declared.gate.Root.{Root}
 use Rattle.dt_gate.specs.declared.gate.Stage.{Stage}
 use Rattle.dt_gate.specs.declared.gate.Stage.TheVariants.{Out, Near, In, Note, Spent}
-use Rattle.dt_gate.specs.Gate.{Numbers, blank_root, root_at, seat_at}
+use Rattle.dt_gate.specs.Gate.{Numbers, root_at, seat_at}
 use Rattle.dt_gate.specs.Events.{with_root, after_leave, step}
 use Rattle.dt_gate.specs.Sweeps.{poll_of, IsOfSweep, BeginsAnew}
-use Rattle.dt_gate.proofs.Lists.{at_set}
+use Rattle.dt_gate.proofs.Roots.{part_stays}
 
 module _ {M E : Type 0} where
   -- the sweep stands as it stood, and so does every root
@@ -27,8 +27,7 @@ module _ {M E : Type 0} where
     held = refl;
     sweep = refl;
     out = refl;
-    standings = λ other. at_set (λ (r : Root). r.standing ≡ (root_at gate other).standing) blank_root gate.roots root other changed
-        (λ is. same ∙ ap (λ k. (root_at gate k).standing) (sym is)) (λ n. refl) (λ past. refl);
+    standings = part_stays (λ (r : Root). r.standing) gate root changed same;
   }
 
   like_after_leave : (gate : Gate M E) (seat : ℕ) (stage : Stage) → IsLike gate (after_leave gate seat stage)

@@ -12,9 +12,9 @@ use Rattle.dt_gate.specs.declared.gate.Stage.{Stage}
 use Rattle.dt_gate.specs.declared.gate.Stage.TheVariants.{Out, Near, In, Note, Spent}
 use Rattle.dt_gate.specs.declared.gate.Standing.{Standing}
 use Rattle.dt_gate.specs.declared.gate.Standing.TheVariants.{Free, Now, Old}
-use Rattle.dt_gate.specs.Gate.{Numbers, IsLive, blank_root, root_at, seat_at, spent}
-use Rattle.dt_gate.specs.Events.{with_seat, with_root, after_publish, after_poll, IsOld}
-use Rattle.dt_gate.specs.Counts.{one_inside, one_near, one_reader, one_unswept, is_unswept, is_old, inside, inside_unswept}
+use Rattle.dt_gate.specs.Gate.{Numbers, IsLive, blank_root, root_at, seat_at, spent, is_old, IsOld}
+use Rattle.dt_gate.specs.Events.{with_seat, with_root, after_publish, after_poll}
+use Rattle.dt_gate.specs.Counts.{one_inside, one_near, one_reader, one_unswept, is_unswept, inside, inside_unswept}
 use Rattle.dt_gate.proofs.Kept.{Counted}
 use Rattle.dt_gate.proofs.Roots.{old_is_not_now, now_is_not_old, now_is_not_free, old_is_not_free, free_is_not_now, free_is_not_old, old_is, gone_root, new_root, at_publish, polled, polled_anew, poll_leads}
 use Rattle.dt_gate.proofs.Lists.{at_set, at_change, sum_split, one_same, one_other}

@@ -9,9 +9,9 @@ use Rattle.dt_gate.specs.declared.gate.Stage.{Stage}
 use Rattle.dt_gate.specs.declared.gate.Stage.TheVariants.{Out, Near, In, Note}
 use Rattle.dt_gate.specs.declared.gate.Standing.{Standing}
 use Rattle.dt_gate.specs.declared.gate.Standing.TheVariants.{Free, Now, Old}
-use Rattle.dt_gate.specs.Gate.{Numbers, root_at, seat_at, spent}
+use Rattle.dt_gate.specs.Gate.{Numbers, root_at, seat_at, spent, is_old}
 use Rattle.dt_gate.specs.Events.{with_seat, given}
-use Rattle.dt_gate.specs.Counts.{one_inside, one_near, one_reader, one_unswept, is_old, inside, near, readers, inside_unswept}
+use Rattle.dt_gate.specs.Counts.{one_inside, one_near, one_reader, one_unswept, inside, near, readers, inside_unswept}
 use Rattle.dt_gate.proofs.Kept.{Counted}
 use Rattle.dt_gate.proofs.Seats.{moves, stays, joins, inside_one, inside_other, near_readers, unswept_mono}
 

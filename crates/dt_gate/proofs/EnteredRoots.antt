@@ -9,12 +9,12 @@ use Rattle.dt_gate.specs.declared.gate.Root.{Root}
 use Rattle.dt_gate.specs.declared.gate.Seat.{Seat}
 use Rattle.dt_gate.specs.declared.gate.Standing.{Standing}
 use Rattle.dt_gate.specs.declared.gate.Standing.TheVariants.{Free, Now, Old}
-use Rattle.dt_gate.specs.Gate.{Numbers, IsLive, blank_root, root_at, seat_at}
-use Rattle.dt_gate.specs.Events.{with_root, with_word, MayPublish, after_publish, IsOld, after_poll}
+use Rattle.dt_gate.specs.Gate.{Numbers, IsLive, blank_root, root_at, seat_at, IsOld}
+use Rattle.dt_gate.specs.Events.{with_root, with_word, MayPublish, after_publish, after_poll}
 use Rattle.dt_gate.specs.Counts.{times_entered}
 use Rattle.dt_gate.specs.Sound.{WasEntered}
 use Rattle.dt_gate.proofs.Kept.{Counted, Shown, Entered}
-use Rattle.dt_gate.proofs.Roots.{now_is_not_old, free_is_not_old, old_is, lay_keeps_standing, gone_root, new_root, freed_root, at_publish, polled, polled_anew, poll_leads}
+use Rattle.dt_gate.proofs.Roots.{now_is_not_old, free_is_not_old, old_is, lay_keeps_standing, gone_root, new_root, freed_root, part_stays, at_publish, polled, polled_anew, poll_leads}
 use Rattle.dt_gate.proofs.Lists.{at_set}
 use Rattle.dt_gate.proofs.EnteredSeats.{worn_more, all_worn_more, SeatIsEntered, entered_copy}
 
@@ -56,8 +56,7 @@ module _ {M E : Type 0} where
   entered_with_root gate root to kept version old = entered_roots gate (set gate.roots root to) kept (at_version gate.current) (λ x e is. (was_old x e is, at_version x))
     where
       at_version : (x : ℕ) → (root_at (with_root gate root to) x).version ≡ (root_at gate x).version
-      at_version x = at_set (λ (r : Root). r.version ≡ (root_at gate x).version) blank_root gate.roots root x to
-          (λ e. version ∙ ap (λ k. (root_at gate k).version) (sym e)) (λ n. refl) (λ past. refl)
+      at_version = part_stays (λ (r : Root). r.version) gate root to version
 
       was_old : (x e : ℕ) → (root_at (with_root gate root to) x).standing ≡ Old e → (root_at gate x).standing ≡ Old e
       was_old x e = at_set (λ (r : Root). r.standing ≡ Old e → (root_at gate x).standing ≡ Old e) blank_root gate.roots root x to

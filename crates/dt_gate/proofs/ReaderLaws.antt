@@ -1,7 +1,7 @@
 -- What a reader that is inside a root can rest on.
 use Rattle.std.proofs.Common.{◌≡◌, ℕ, Bool, true, false, nat_lt, cond, List, [], ◌∷◌, ◌++◌, length, refl, sym, subst, ap, ◌∙◌, arith, ltb-true, ltb-false, get_or-set_same}
 use Rattle.dt_pages.specs.Reading.{Reading, Reaches, levels}
-use Rattle.dt_pages.proofs.Readings.{meets_other}
+use Rattle.dt_pages.proofs.Readings.{meets_same}
 use Rattle.dt_gate.specs.declared.event.Event.TheVariants.{Read, Fill}
 use Rattle.dt_gate.specs.declared.event.ReadWord.{ReadWord}
 use Rattle.dt_gate.specs.declared.event.ReadWord.TheVariants.{Version, Top, Page}
@@ -38,7 +38,7 @@ module _ {M E : Type 0} (shows : Reading → List E → Type 0) (numbers : Numbe
   no_fill_under_a_reader gate seat root frozen page at word kept is allowed met =
       let stay = (kept.shown.pages.inside_is_safe seat root frozen is).words_stay in
       allowed.3 root (inside_is_live numbers gate kept.counted seat root frozen is)
-      (subst (λ t. Reaches (pages_of gate.words) t page) stay.top (meets_other (pages_of frozen.words) (pages_of gate.words) levels frozen.top page stay.pages met))
+      (subst (λ t. Reaches (pages_of gate.words) t page) stay.top ((meets_same (pages_of frozen.words) (pages_of gate.words) levels frozen.top page stay.pages).0 met))
 
   pub tell_teaches : (gate : Gate M E) (taker : Holder) → Kept shows numbers gate → BothArePrefixes (joined_of gate taker) (history_of gate taker)
   tell_teaches gate Author kept = kept.shown.prefixes.joined_by_the_author

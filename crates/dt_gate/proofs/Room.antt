@@ -6,8 +6,7 @@ use Rattle.dt_gate.specs.declared.gate.Gate.{Gate}
 use Rattle.dt_gate.specs.declared.gate.Root.{Root}
 use Rattle.dt_gate.specs.declared.gate.Standing.{Standing}
 use Rattle.dt_gate.specs.declared.gate.Standing.TheVariants.{Free, Now, Old}
-use Rattle.dt_gate.specs.Gate.{Numbers, blank_root, root_at}
-use Rattle.dt_gate.specs.Counts.{is_old}
+use Rattle.dt_gate.specs.Gate.{Numbers, blank_root, root_at, is_old}
 use Rattle.dt_gate.specs.Sweeps.{old_roots, SweepLeavesRoom}
 use Rattle.dt_gate.proofs.Kept.{Kept}
 use Rattle.dt_gate.proofs.Places.{stands_in, in_head, count_places}

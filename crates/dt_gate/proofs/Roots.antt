@@ -1,14 +1,14 @@
 -- Roots: how they stand, and what a lay, a publish and a poll make of them.
-use Rattle.std.proofs.Common.{◌≡◌, ◌≢◌, ℕ, ◌<◌, ◌==◌, Bool, true, false, cond, [], ◌∷◌, ◌++◌, length, set, Option, Some, None, refl, sym, subst, ◌∙◌, eqb-true, eq-eqb, true≢false, length-set}
+use Rattle.std.proofs.Common.{◌≡◌, ◌≢◌, ℕ, ◌<◌, ◌==◌, Bool, true, false, cond, [], ◌∷◌, ◌++◌, length, set, Option, Some, None, refl, sym, ap, subst, ◌∙◌, eqb-true, eq-eqb, true≢false, length-set}
 use Rattle.dt_gate.specs.declared.event.RecordWord.{RecordWord}
 use Rattle.dt_gate.specs.declared.event.RecordWord.TheVariants.{Exits, Version, Top}
 use Rattle.dt_gate.specs.declared.gate.Gate.{Gate}
 use Rattle.dt_gate.specs.declared.gate.Root.{Root}
 use Rattle.dt_gate.specs.declared.gate.Standing.{Standing}
 use Rattle.dt_gate.specs.declared.gate.Standing.TheVariants.{Free, Now, Old}
-use Rattle.dt_gate.specs.Gate.{IsLive, blank_root, nothing_laid, root_at}
-use Rattle.dt_gate.specs.Events.{with_root, with_word, after_publish, IsOld, is_new_sweep, with_new_sweep, poll_finds, after_poll}
-use Rattle.dt_gate.proofs.Lists.{in_list, at_change}
+use Rattle.dt_gate.specs.Gate.{IsLive, blank_root, nothing_laid, root_at, IsOld}
+use Rattle.dt_gate.specs.Events.{with_root, with_word, after_publish, is_new_sweep, with_new_sweep, poll_finds, after_poll}
+use Rattle.dt_gate.proofs.Lists.{in_list, at_set, at_change}
 use Rattle.dt_gate.proofs.Seats.{root_here}
 
 pub old_is_not_now : {n : ℕ} → ¬ (Old n ≡ Now)
@@ -54,6 +54,12 @@ module _ {M E : Type 0} where
   -- a root after it was freed
   abbrev pub freed_root : Gate M E → ℕ → Root
   freed_root gate root = record (root_at gate root) { standing = Free }
+
+  -- where one root changes and keeps a part, every root has this part as it was
+  pub part_stays : {X : Type 0} (part : Root → X) (gate : Gate M E) (root : ℕ) (to : Root) → part to ≡ part (root_at gate root)
+      → (x : ℕ) → part (root_at (with_root gate root to) x) ≡ part (root_at gate x)
+  part_stays part gate root to same x = at_set (λ r. part r ≡ part (root_at gate x)) blank_root gate.roots root x to
+      (λ e. same ∙ ap (λ k. part (root_at gate k)) (sym e)) (λ n. refl) (λ past. refl)
 
   -- what holds of the root at x after a publish
   pub at_publish : (gate : Gate M E) (root : ℕ) (entry : E) → IsLive (root_at gate gate.current).standing → (root_at gate root).laid.exits ≡ Some 0 → (P : Root → Type 0) (x : ℕ)

@@ -4,13 +4,13 @@ use mathlib.Core.List.{IsPrefix}
 use native.Mathlib.Decide.{ℕ_discrete}
 use Rattle.dt_pages.specs.Reading.{Reading, reading, Reaches, levels}
 use Rattle.dt_pages.specs.Laws.{SamePage}
-use Rattle.dt_pages.proofs.Readings.{reading_same, meets_other, meets_back}
+use Rattle.dt_pages.proofs.Readings.{reading_same, meets_same}
 use Rattle.dt_gate.specs.declared.gate.Gate.{Gate}
 use Rattle.dt_gate.specs.declared.gate.Root.{Root}
 use Rattle.dt_gate.specs.declared.gate.Standing.{Standing}
 use Rattle.dt_gate.specs.declared.gate.Standing.TheVariants.{Old}
-use Rattle.dt_gate.specs.Gate.{Numbers, IsLive, pages_of, blank_root, root_at}
-use Rattle.dt_gate.specs.Events.{with_root, MayPublish, after_publish, IsOld, after_poll}
+use Rattle.dt_gate.specs.Gate.{Numbers, IsLive, pages_of, blank_root, root_at, IsOld}
+use Rattle.dt_gate.specs.Events.{with_root, MayPublish, after_publish, after_poll}
 use Rattle.dt_gate.specs.Sound.{LaidWordsStand}
 use Rattle.dt_gate.proofs.Kept.{Counted, Shown}
 use Rattle.dt_gate.proofs.Roots.{gone_root, new_root, freed_root, at_publish, polled, polled_anew, poll_leads}
@@ -36,7 +36,7 @@ module _ {M E : Type 0} (shows : Reading → List E → Type 0) (numbers : Numbe
       (λ x live. record {
         version = subst (λ r. shows r (take (root_at gate x).version gate.history)) (same_reading x live) (kept.pages.each_shows_its_version x live);
         in_bounds = λ q met. kept.pages.reach_is_in_bounds x live q
-            (meets_back (pages_of gate.words) (pages_of words) levels (root_at gate x).top q (same_pages x live) met);
+            ((meets_same (pages_of gate.words) (pages_of words) levels (root_at gate x).top q (same_pages x live)).1 met);
         laid = kept.live_is_laid x live;
         published = kept.live_version x live;
       })
@@ -47,7 +47,7 @@ module _ {M E : Type 0} (shows : Reading → List E → Type 0) (numbers : Numbe
         top = refl;
         pages = λ q met. same_pages x (inside_is_live numbers gate counted seat x frozen is) q
             (subst (λ t. Reaches (pages_of gate.words) t q) safe.words_stay.top
-            (meets_other (pages_of frozen.words) (pages_of gate.words) levels frozen.top q safe.words_stay.pages met));
+            ((meets_same (pages_of frozen.words) (pages_of gate.words) levels frozen.top q safe.words_stay.pages).0 met));
       })
     where
       words : List ℕ

@@ -14,7 +14,7 @@ use Rattle.dt_gate.specs.Gate.{Numbers, IsLive, pages_of, blank_root, nothing_la
 use Rattle.dt_gate.specs.Events.{with_root, with_word}
 use Rattle.dt_gate.specs.Sound.{LaidWordsStand, InsideIsSafe}
 use Rattle.dt_gate.proofs.Kept.{Counted, Shown}
-use Rattle.dt_gate.proofs.Roots.{none_is_not_some, lay_keeps_standing}
+use Rattle.dt_gate.proofs.Roots.{none_is_not_some, lay_keeps_standing, part_stays}
 use Rattle.dt_gate.proofs.Lists.{at_set}
 use Rattle.dt_gate.proofs.CountedRoots.{inside_is_live}
 use Rattle.dt_gate.proofs.Histories.{prefix_same, prefix_trans}
@@ -104,16 +104,13 @@ module _ {M E : Type 0} (shows : Reading → List E → Type 0) (numbers : Numbe
       next = with_root gate root to
 
       at_version : (x : ℕ) → (root_at next x).version ≡ (root_at gate x).version
-      at_version x = at_set (λ (r : Root). r.version ≡ (root_at gate x).version) blank_root gate.roots root x to
-          (λ e. version ∙ ap (λ k. (root_at gate k).version) (sym e)) (λ n. refl) (λ past. refl)
+      at_version = part_stays (λ (r : Root). r.version) gate root to version
 
       at_top : (x : ℕ) → (root_at next x).top ≡ (root_at gate x).top
-      at_top x = at_set (λ (r : Root). r.top ≡ (root_at gate x).top) blank_root gate.roots root x to
-          (λ e. top ∙ ap (λ k. (root_at gate k).top) (sym e)) (λ n. refl) (λ past. refl)
+      at_top = part_stays (λ (r : Root). r.top) gate root to top
 
       at_laid : (x : ℕ) → (root_at next x).laid ≡ (root_at gate x).laid
-      at_laid x = at_set (λ (r : Root). r.laid ≡ (root_at gate x).laid) blank_root gate.roots root x to
-          (λ e. laid ∙ ap (λ k. (root_at gate k).laid) (sym e)) (λ n. refl) (λ past. refl)
+      at_laid = part_stays (λ (r : Root). r.laid) gate root to laid
 
       was_live : (x : ℕ) → IsLive (root_at next x).standing → IsLive (root_at gate x).standing
       was_live x = at_set (λ (r : Root). IsLive r.standing → IsLive (root_at gate x).standing) blank_root gate.roots root x to

@@ -12,14 +12,13 @@ use Rattle.dt_gate.specs.declared.gate.Root.{Root}
 use Rattle.dt_gate.specs.declared.gate.Seat.{Seat}
 use Rattle.dt_gate.specs.declared.gate.Stage.{Stage}
 use Rattle.dt_gate.specs.declared.gate.Stage.TheVariants.{Out, Near, In, Note, Spent}
-use Rattle.dt_gate.specs.Gate.{Numbers, blank_root, root_at, seat_at, spent}
+use Rattle.dt_gate.specs.Gate.{Numbers, blank_root, root_at, seat_at, spent, IsOld}
 use Rattle.dt_gate.specs.Events.{IsAllowed, step, with_seat, with_root, with_word, joined_by, after_leave, after_look, after_enter, after_publish, after_poll}
 use Rattle.dt_gate.specs.Stays.{ButExits, SameWords, OtherSeatsStay, OtherRootsStay, OtherWordsStay, LeaveLeaves, FillLeaves, LayLeaves, PublishLeaves, PollLeaves, SeatBackLeaves, NoteBackLeaves, Leaves}
 use Rattle.dt_gate.proofs.Kept.{Kept}
 use Rattle.dt_gate.proofs.Roots.{lay_keeps_standing, gone_root, new_root, freed_root, at_publish, poll_leads}
 use Rattle.std.proofs.Common.{Some}
 use Rattle.dt_gate.specs.Gate.{IsLive}
-use Rattle.dt_gate.specs.Events.{IsOld}
 use Rattle.dt_gate.proofs.Lists.{at_set}
 use Rattle.dt_gate.proofs.Histories.{longer_mine}
 

@@ -9,9 +9,8 @@ use Rattle.dt_gate.specs.declared.event.Event.TheVariants.{Poll}
 use Rattle.dt_gate.specs.declared.gate.Gate.{Gate}
 use Rattle.dt_gate.specs.declared.gate.Root.{Root}
 use Rattle.dt_gate.specs.declared.gate.Standing.TheVariants.{Old}
-use Rattle.dt_gate.specs.Gate.{Numbers, IsLive, blank_root, root_at}
-use Rattle.dt_gate.specs.Events.{with_root, IsOld, is_new_sweep, after_poll, step}
-use Rattle.dt_gate.specs.Counts.{is_old}
+use Rattle.dt_gate.specs.Gate.{Numbers, IsLive, blank_root, root_at, is_old, IsOld}
+use Rattle.dt_gate.specs.Events.{with_root, is_new_sweep, after_poll, step}
 use Rattle.dt_gate.specs.Runs.{after, AreAllowed}
 use Rattle.dt_gate.specs.Sweeps.{AreDistinct, poll_of, polled_roots, IsOfSweep, IsSweep, SweepLeavesRoom, PollDecides}
 use Rattle.dt_gate.proofs.Kept.{Kept}

@@ -1,7 +1,8 @@
 -- Where each event is just allowed, and where it is just not, from the busy gate on.
-use Rattle.std.specs.Prelude.{◌≡◌, ℕ, zero, suc, ◌<◌, [], ◌∷◌, Option, Some, None, refl}
-use Rattle.std.proofs.Common.{arith, inl, inr}
-use Rattle.dt_pages.specs.Reading.{Reaches}
+use Rattle.std.specs.Prelude.{◌≡◌, ℕ, zero, suc, ◌<◌, List, [], ◌∷◌, ◌++◌, Option, Some, None, replicate, refl}
+use Rattle.std.proofs.Common.{sym, subst, ◌∙◌, arith, inl, inr}
+use Rattle.std.proofs.lemmas.List.{get_or-append-add, get_or-replicate}
+use Rattle.dt_pages.specs.Reading.{levels, Meets, Reaches}
 use Rattle.dt_gate.specs.declared.event.Event.{Event}
 use Rattle.dt_gate.specs.declared.event.Event.TheVariants.{Look, Enter, Read, Leave, Fill, Lay, Publish, Poll, SeatOut, NoteOut, SeatBack, NoteBack, Tell}
 use Rattle.dt_gate.specs.declared.event.Holder.TheVariants.{Author, Reader}
@@ -31,6 +32,10 @@ one_near = record busy { seats = inside_seat ∷ record out_seat { stage = Near 
 
 who_is_out_may_look : May busy (Look 1)
 who_is_out_may_look = refl
+
+-- also at the limit, where the look is worn
+who_is_out_may_look_at_the_limit : May (record busy { entries = 4 }) (Look 1)
+who_is_out_may_look_at_the_limit = refl
 
 who_is_inside_may_not_look : ¬ May busy (Look 0)
 who_is_inside_may_not_look may = let is : ◌≡◌ {A = Stage} (In 0 _) Out = may in cc
@@ -84,15 +89,20 @@ who_is_near_may_not_leave may = may
 abbrev bare : Gate ℕ ℕ
 bare = record busy { words = []; roots = old_root ∷ current_root ∷ record laid_root { top = 15 } ∷ [] }
 
--- so no live root reaches page 15
+-- so page 0 reaches no other
+from_zero : (page : ℕ) → Reaches (pages_of []) 0 page → page ≡ 0
+from_zero page (inl is) = sym is
+from_zero page (inr (at, below, inl is)) = sym is
+from_zero page (inr (at, below, inr (next, under, inl is))) = sym is
+from_zero page (inr (at, below, inr (next, under, inr way))) = absurd way.2
+
+a_page_that_is_not_reached_may_not_be_read :
+    ¬ May (record bare { seats = record inside_seat { stage = In 0 (record { words = []; version = 0; top = 0 }) } ∷ [] }) (Read 0 (read.Page 1 0))
+a_page_that_is_not_reached_may_not_be_read may = absurd (omega (arith, from_zero 1 may.0))
+
+-- and no live root page 15
 not_reached : (root : ℕ) → IsLive (root_at bare root).standing → ¬ Reaches (pages_of []) (root_at bare root).top 15
-not_reached zero live met = absurd (from_zero met)
-  where
-    from_zero : ¬ Reaches (pages_of []) 0 15
-    from_zero (inl is) = absurd (omega (arith, is))
-    from_zero (inr (at, below, inl is)) = let zero_is : ◌≡◌ {A = ℕ} 0 15 = is in absurd (omega (arith, zero_is))
-    from_zero (inr (at, below, inr (next, under, inl is))) = let zero_is : ◌≡◌ {A = ℕ} 0 15 = is in absurd (omega (arith, zero_is))
-    from_zero (inr (at, below, inr (next, under, inr way))) = way.2
+not_reached zero live met = absurd (omega (arith, from_zero 15 met))
 not_reached (suc zero) live met = not_reached zero tt met
 not_reached (suc (suc zero)) live met = absurd live
 not_reached (suc (suc (suc root))) live met = absurd live
@@ -101,7 +111,29 @@ not_reached (suc (suc (suc root))) live met = absurd live
 the_last_page_may_be_filled : May bare (Fill 15 511 9)
 the_last_page_may_be_filled = (omega arith, omega arith, omega arith, not_reached)
 
-page_zero_may_not_be_filled : ¬ May bare (Fill 0 0 9)
+-- page 1 has no word that is 0, and is the top page of the one live root
+abbrev ones : List ℕ
+ones = replicate 512 0 ++ replicate 512 1
+
+abbrev full : Gate ℕ ℕ
+full = record busy { words = ones; roots = blank_root ∷ record current_root { top = 1 } ∷ [] }
+
+one_at : (at : ℕ) → at < 512 → pages_of ones 1 at ≡ 1
+one_at at below = get_or-append-add (replicate 512 0) (replicate 512 1) at 0 ∙ get_or-replicate 512 at 1 0 below
+
+page_one_meets_no_other : (level : ℕ) → ¬ Meets (pages_of ones) level 1 0
+page_one_meets_no_other zero met = met
+page_one_meets_no_other (suc level) (inl is) = absurd (omega (arith, is))
+page_one_meets_no_other (suc level) (inr (at, below, met)) =
+    page_one_meets_no_other level (subst (λ page. Meets (pages_of ones) level page 0) (one_at at below) met)
+
+page_zero_is_not_reached : (root : ℕ) → IsLive (root_at full root).standing → ¬ Reaches (pages_of ones) (root_at full root).top 0
+page_zero_is_not_reached zero live met = live
+page_zero_is_not_reached (suc zero) live met = page_one_meets_no_other levels met
+page_zero_is_not_reached (suc (suc root)) live met = live
+
+-- no live root reaches it, and yet it may not be filled
+page_zero_may_not_be_filled : ¬ May full (Fill 0 0 9)
 page_zero_may_not_be_filled may = may.0 refl
 
 a_page_past_the_last_may_not_be_filled : ¬ May bare (Fill 16 0 9)

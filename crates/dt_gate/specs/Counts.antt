@@ -1,12 +1,10 @@
 -- The counts over all seats that soundness speaks of: in each, every seat has one summand.
-use Rattle.std.specs.Prelude.{ℕ, ◌+◌, Bool, true, false, ◌&&◌, not, ◌==◌, if◌then◌else◌, List, count_by, sum_by}
+use Rattle.std.specs.Prelude.{ℕ, ◌+◌, Bool, ◌&&◌, not, ◌==◌, if◌then◌else◌, List, count_by, sum_by}
 use Rattle.std.specs.List.{list_any}
 use Rattle.dt_gate.specs.declared.gate.Gate.{Gate}
 use Rattle.dt_gate.specs.declared.gate.Stage.{Stage}
 use Rattle.dt_gate.specs.declared.gate.Stage.TheVariants.{Out, Near, In, Note, Spent}
-use Rattle.dt_gate.specs.declared.gate.Standing.{Standing}
-use Rattle.dt_gate.specs.declared.gate.Standing.TheVariants.{Free, Now, Old}
-use Rattle.dt_gate.specs.Gate.{root_at}
+use Rattle.dt_gate.specs.Gate.{is_old, root_at}
 
 -- 1 for a seat that is inside the root
 abbrev pub one_inside : ℕ → Stage → ℕ
@@ -31,12 +29,6 @@ one_reader Near = 1
 one_reader (In root frozen) = 1
 one_reader Note = 0
 one_reader Spent = 0
-
--- the root is old
-abbrev pub is_old : Standing → Bool
-is_old Free = false
-is_old Now = false
-is_old (Old entries) = true
 
 -- how often the version stands in the list
 abbrev pub times_in : ℕ → List ℕ → ℕ

@@ -91,8 +91,8 @@ a_laid_top_page : after_event (Lay 2 Top 3) ≡ record busy {
 }
 a_laid_top_page = refl
 
--- root 2 in the place of root 1, which keeps its record words
-a_publish : after_event (Publish 2 8) ≡ record busy {
+-- root 2 in the place of root 1, which keeps its record words; the sweep to come counts the readers that are out now
+a_publish : step two (record busy { sweep = 1 }) (Publish 2 8) ≡ record busy {
   current = 2;
   entries = 0;
   roots = old_root ∷ record current_root { standing = Old 1 } ∷ record blank_root { standing = Now } ∷ blank_root ∷ [];

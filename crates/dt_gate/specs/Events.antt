@@ -19,7 +19,7 @@ use Rattle.dt_gate.specs.declared.gate.Stage.{Stage}
 use Rattle.dt_gate.specs.declared.gate.Stage.TheVariants.{Out, Near, In, Note, Spent}
 use Rattle.dt_gate.specs.declared.gate.Standing.{Standing}
 use Rattle.dt_gate.specs.declared.gate.Standing.TheVariants.{Free, Now, Old}
-use Rattle.dt_gate.specs.Gate.{Numbers, pages_of, nothing_laid, IsLive, root_at, seat_at, spent}
+use Rattle.dt_gate.specs.Gate.{Numbers, pages_of, nothing_laid, IsLive, IsOld, root_at, seat_at, spent}
 
 -- the seat is a reader's, and was not given back
 abbrev pub IsReader : Stage → Type 0
@@ -47,12 +47,6 @@ IsFrozenWord word Spent = ⊥
 IsFrozenWord read.Version (In root frozen) = ⊤
 IsFrozenWord read.Top (In root frozen) = ⊤
 IsFrozenWord (read.Page page at) (In root frozen) = Reaches (pages_of frozen.words) frozen.top page × (at < 512)
-
--- the root was published, and another one after it
-abbrev pub IsOld : Standing → Type 0
-IsOld Free = ⊥
-IsOld Now = ⊥
-IsOld (Old entries) = ⊤
 
 -- the root with a word laid
 abbrev pub with_word : Root → RecordWord → ℕ → Root

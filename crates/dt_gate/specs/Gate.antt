@@ -1,5 +1,5 @@
 -- The parts of a gate, and the fresh one.
-use Rattle.std.specs.Prelude.{ℕ, ◌+◌, ◌*◌, List, [], ◌∷◌, replicate, slice_index, slice_index_or, None}
+use Rattle.std.specs.Prelude.{ℕ, ◌+◌, ◌*◌, Bool, true, false, T, List, [], ◌∷◌, replicate, slice_index, slice_index_or, None}
 use Rattle.dt_pages.specs.Reading.{Pages}
 use Rattle.dt_gate.specs.declared.gate.Gate.{Gate}
 use Rattle.dt_gate.specs.declared.gate.Root.{Root}
@@ -37,6 +37,15 @@ abbrev pub IsLive : Standing → Type 0
 IsLive Free = ⊥
 IsLive Now = Unit {0}
 IsLive (Old entries) = Unit {0}
+
+-- the root was published, and another one after it
+abbrev pub is_old : Standing → Bool
+is_old Free = false
+is_old Now = false
+is_old (Old entries) = true
+
+abbrev pub IsOld : Standing → Type 0
+IsOld standing = T (is_old standing)
 
 module _ {M E : Type 0} where
   -- the root of this number

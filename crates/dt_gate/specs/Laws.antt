@@ -1,5 +1,5 @@
 -- What holds of every gate that a run can reach.
-use Rattle.std.specs.Prelude.{◌≡◌, ℕ, ◌+◌, ◌*◌, ◌<◌, ◌≤◌, List, length, All}
+use Rattle.std.specs.Prelude.{◌≡◌, ℕ, ◌+◌, ◌*◌, ◌<◌, ◌≤◌, List, length}
 use Rattle.dt_pages.specs.Reading.{Reading}
 use Rattle.dt_gate.specs.declared.event.Event.{Event}
 use Rattle.dt_gate.specs.declared.event.Event.TheVariants.{Tell}
@@ -9,8 +9,7 @@ use Rattle.dt_gate.specs.declared.gate.Gate.{Gate}
 use Rattle.dt_gate.specs.declared.gate.Standing.TheVariants.{Old}
 use Rattle.dt_gate.specs.Gate.{Numbers, fresh, IsLive, root_at, seat_at}
 use Rattle.dt_gate.specs.Events.{history_of, IsAllowed, step}
-use Rattle.dt_gate.specs.Counts.{times_taken}
-use Rattle.dt_gate.specs.Sound.{BothArePrefixes, IsSound}
+use Rattle.dt_gate.specs.Sound.{BothArePrefixes, WornWasTaken, IsSound}
 use Rattle.dt_gate.specs.Runs.{IsReached}
 
 module _ {M E : Type 0} where
@@ -59,8 +58,7 @@ module _ (M : Type 0) {E : Type 0} (shows : Reading → List E → Type 0) (numb
 
   -- where no reader is out, the number of a worn look is at most how often its version was taken
   abbrev pub WornLooksWereTaken : Type 0
-  WornLooksWereTaken = (gate : Gate M E) → IsReached shows numbers gate → gate.out ≡ 0
-      → All (All (λ look. look.1 ≤ times_taken gate look.0)) gate.worn
+  WornLooksWereTaken = (gate : Gate M E) → IsReached shows numbers gate → WornWasTaken gate
 
   -- who took a seat or a note back has both histories as prefixes of its own
   abbrev pub TellTeaches : Type 0

@@ -6,8 +6,7 @@ use Rattle.dt_gate.specs.declared.gate.Gate.{Gate}
 use Rattle.dt_gate.specs.declared.gate.Standing.{Standing}
 use Rattle.dt_gate.specs.declared.gate.Standing.TheVariants.{Free, Now, Old}
 use Rattle.std.specs.List.{list_any}
-use Rattle.dt_gate.specs.Gate.{root_at}
-use Rattle.dt_gate.specs.Counts.{is_old}
+use Rattle.dt_gate.specs.Gate.{root_at, is_old}
 use Rattle.dt_gate.specs.Sweeps.{AreDistinct, polled_roots, BeginsAnew, old_roots, IsSweep, SweepLeavesRoom, PollDecides}
 use Rattle.dt_gate.specs.WrongMachines.{anything}
 use Rattle.dt_gate.specs.Busy.{two, busy, old_root, current_root, laid_root}

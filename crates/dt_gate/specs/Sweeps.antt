@@ -6,9 +6,8 @@ use Rattle.dt_gate.specs.declared.event.Event.{Event}
 use Rattle.dt_gate.specs.declared.event.Event.TheVariants.{Publish, Poll, SeatOut, SeatBack}
 use Rattle.dt_gate.specs.declared.gate.Gate.{Gate}
 use Rattle.dt_gate.specs.declared.gate.Standing.TheVariants.{Free, Old}
-use Rattle.dt_gate.specs.Gate.{Numbers, root_at}
+use Rattle.dt_gate.specs.Gate.{Numbers, root_at, is_old}
 use Rattle.dt_gate.specs.Events.{is_new_sweep, step}
-use Rattle.dt_gate.specs.Counts.{is_old}
 use Rattle.dt_gate.specs.Runs.{after, AreAllowed, IsReached}
 
 -- each root stands in the list once

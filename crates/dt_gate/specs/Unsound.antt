@@ -10,7 +10,7 @@ use Rattle.dt_gate.specs.declared.gate.Stage.TheVariants.{Near, In, Spent}
 use Rattle.dt_gate.specs.declared.gate.Standing.{Standing}
 use Rattle.dt_gate.specs.declared.gate.Standing.TheVariants.{Now, Old}
 use Rattle.dt_gate.specs.Gate.{nothing_laid, blank_root}
-use Rattle.dt_gate.specs.Sound.{OneRootIsCurrent, EntriesAreAccountedFor, CountsAreBounded, PagesShowVersions, SweepIsBounded, HistoriesArePrefixes, EntriesAreEntered, WornWasEntered, WornWasTaken}
+use Rattle.dt_gate.specs.Sound.{OneRootIsCurrent, EntriesAreAccountedFor, CountsAreBounded, InsideIsSafe, PagesShowVersions, SweepIsBounded, HistoriesArePrefixes, EntriesAreEntered, WornWasEntered, WornWasTaken}
 use Rattle.dt_gate.specs.WrongMachines.{anything}
 use Rattle.dt_gate.specs.Busy.{two, zeros, busy, old_root, current_root, laid_root, inside_seat, out_seat, note_of}
 use Rattle.dt_gate.specs.Examples.{counted}
@@ -156,6 +156,10 @@ it_entered_another_version_later : ¬ PagesShowVersions anything two (with_froze
 it_entered_another_version_later part =
     let last = (part.inside_is_safe 0 0 _ refl).entered_last in
     absurd (omega (arith, last_is last.0 0 last.1))
+
+-- the version that it entered is not the empty list of entries, by this meaning
+its_words_show_another_history : ¬ InsideIsSafe something busy inside_seat 0 (record { words = zeros; version = 0; top = 0 })
+its_words_show_another_history safe = safe.words_show refl
 
 it_has_not_seen_its_version : ¬ PagesShowVersions anything two (with_readers (record (inside_root 1) { history = [] }) out_seat)
 it_has_not_seen_its_version part =

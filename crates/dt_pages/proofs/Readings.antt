@@ -1,5 +1,5 @@
 -- A reading depends on the pages that are reached alone.
-use Rattle.std.proofs.Common.{◌≡◌, ℕ, zero, suc, ◌/◌, ◌%◌, ◌^◌, ◌<◌, if◌then◌else◌, nat_lt, Bool, true, false, refl, sym, ap, ◌∙◌, subst, inl, inr, arith}
+use Rattle.std.proofs.Common.{◌≡◌, ℕ, zero, suc, ◌/◌, ◌%◌, ◌^◌, ◌<◌, ◌↔◌, if◌then◌else◌, nat_lt, Bool, true, false, refl, sym, ap, ◌∙◌, subst, inl, inr, arith}
 use mathlib.Core.Path.{fun_ext}
 use Rattle.std.proofs.Common.{unwrap_or}
 use Rattle.std.specs.FinMap.{empty, get-empty}
@@ -24,28 +24,15 @@ follow_same pages others (suc level) found address same =
     follow_same pages others level (pages found at) address (λ page met. same page (inr (at, within address level, met)))
     ∙ ap (λ next. follow others level next address) here
 
-pub meets_other : (pages others : Pages) (level found page : ℕ) → SameBelow pages others level found
-    → Meets pages level found page → Meets others level found page
-meets_other pages others zero found page same met = met
-meets_other pages others (suc level) found page same (inl is) = inl is
-meets_other pages others (suc level) found page same (inr way) =
-    inr (
-      way.0,
-      way.1,
-      subst (λ next. Meets others level next page) (same found (inl refl) way.0 way.1)
-          (meets_other pages others level (pages found way.0) page (λ q met. same q (inr (way.0, way.1, met))) way.2),
-    )
-
-pub meets_back : (pages others : Pages) (level found page : ℕ) → SameBelow pages others level found
-    → Meets others level found page → Meets pages level found page
-meets_back pages others zero found page same met = met
-meets_back pages others (suc level) found page same (inl is) = inl is
-meets_back pages others (suc level) found page same (inr way) =
-    inr (
-      way.0,
-      way.1,
-      meets_back pages others level (pages found way.0) page (λ q met. same q (inr (way.0, way.1, met)))
-          (subst (λ next. Meets others level next page) (sym (same found (inl refl) way.0 way.1)) way.2),
+pub meets_same : (pages others : Pages) (level found page : ℕ) → SameBelow pages others level found
+    → Meets pages level found page ↔ Meets others level found page
+meets_same pages others zero found page same = ((λ met. met), (λ met. met))
+meets_same pages others (suc level) found page same =
+    let next : (at : ℕ) → at < 512 → Meets pages level (pages found at) page ↔ Meets others level (others found at) page = λ at below.
+    subst (λ to. Meets pages level (pages found at) page ↔ Meets others level to page) (same found (inl refl) at below)
+    (meets_same pages others level (pages found at) page (λ q met. same q (inr (at, below, met)))) in (
+      (λ met. elim met [ inl is ↦ inl is | inr way ↦ inr (way.0, way.1, (next way.0 way.1).0 way.2) ]),
+      (λ met. elim met [ inl is ↦ inl is | inr way ↦ inr (way.0, way.1, (next way.0 way.1).1 way.2) ]),
     )
 
 pub reading_same : (pages others : Pages) (top : ℕ) → ((page : ℕ) → Reaches pages top page → SamePage pages others page)

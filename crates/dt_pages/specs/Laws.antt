@@ -117,6 +117,7 @@ pub record SixPages : Type 0 where
   pub they_show_it : reading six_pages 1 ≡ look_up three_words
   pub past_the_last_address : reading six_pages 1 addresses ≡ 0
   pub a_word_of_0_is_not_set : IsImage (from_sorted ((0, 0) ∷ [])) → ⊥
+  pub the_last_address_may_be_set : IsImage (from_sorted ((134217727, 1) ∷ []))
   pub nothing_is_set_past_the_last_address : IsImage (from_sorted ((134217728, 1) ∷ [])) → ⊥
   pub no_other_is_reached : (page : ℕ) → Reaches six_pages 1 page → page ≤ 6
 

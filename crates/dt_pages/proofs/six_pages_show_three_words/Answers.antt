@@ -13,6 +13,10 @@ each (suc zero) d below = (omega arith, omega arith)
 each (suc (suc zero)) d below = (omega arith, omega arith)
 each (suc (suc (suc k))) d below = absurd (omega arith)
 
+at_the_last : All IsSet ((134217727, 1) ∷ [])
+at_the_last zero d below = (omega arith, omega arith)
+at_the_last (suc k) d below = absurd (omega arith)
+
 -- an image of one word has it in range and other than 0
 one_word : (address word : ℕ) → IsImage (from_sorted ((address, word) ∷ [])) → IsSet (address, word)
 one_word address word is =
@@ -29,6 +33,7 @@ returns c = record {
   they_show_it = shown;
   past_the_last_address = refl;
   a_word_of_0_is_not_set = λ is. (one_word 0 0 is).1 refl;
+  the_last_address_may_be_set = subst (All IsSet) (sym (entries-from_sorted nat_cmp ((134217727, 1) ∷ []) tt)) at_the_last;
   nothing_is_set_past_the_last_address = λ is. absurd (omega (arith, (one_word 134217728 1 is).0));
   no_other_is_reached = only_six;
 }
