@@ -9,7 +9,7 @@ use Rattle.dt_gate.specs.declared.gate.Gate.{Gate}
 use Rattle.dt_gate.specs.declared.gate.Root.{Root}
 use Rattle.dt_gate.specs.declared.gate.Stage.{Stage}
 use Rattle.dt_gate.specs.declared.gate.Stage.TheVariants.{Out, Near, In, Note, Spent}
-use Rattle.dt_gate.specs.Gate.{Numbers, root_at, seat_at}
+use Rattle.dt_gate.specs.Gate.{Limits, root_at, seat_at}
 use Rattle.dt_gate.specs.Events.{with_root, after_leave, step}
 use Rattle.dt_gate.specs.Sweeps.{poll_of, IsOfSweep, BeginsAnew}
 use Rattle.dt_gate.proofs.Roots.{part_stays}
@@ -39,21 +39,21 @@ module _ {M E : Type 0} where
   like_after_leave gate seat Note = record { held = refl; sweep = refl; out = refl; standings = λ root. refl }
   like_after_leave gate seat Spent = record { held = refl; sweep = refl; out = refl; standings = λ root. refl }
 
-  pub like_after : (numbers : Numbers) (gate : Gate M E) (event : Event M E) → IsOfSweep event → poll_of event ≡ [] → IsLike gate (step numbers gate event)
-  like_after numbers gate (Poll root) is none = absurd (poll_is_some none)
+  pub like_after : (limits : Limits) (gate : Gate M E) (event : Event M E) → IsOfSweep event → poll_of event ≡ [] → IsLike gate (step limits gate event)
+  like_after limits gate (Poll root) is none = absurd (poll_is_some none)
     where
       poll_is_some : ¬ (root ∷ [] ≡ [])
       poll_is_some is = cc
-  like_after numbers gate (Leave seat) is none = like_after_leave gate seat (seat_at gate seat).stage
-  like_after numbers gate (Lay root Exits value) is none = like_with_root gate root _ refl
-  like_after numbers gate (Lay root Version value) is none = like_with_root gate root _ refl
-  like_after numbers gate (Lay root Top value) is none = like_with_root gate root _ refl
-  like_after numbers gate (Publish root entry) is none = absurd is
-  like_after numbers gate SeatOut is none = absurd is
-  like_after numbers gate (SeatBack seat) is none = absurd is
-  like_after numbers gate (NoteBack note Author) is none = record { held = refl; sweep = refl; out = refl; standings = λ root. refl }
-  like_after numbers gate (NoteBack note (Reader taker)) is none = record { held = refl; sweep = refl; out = refl; standings = λ root. refl }
-  like_after numbers gate event is none = record { held = refl; sweep = refl; out = refl; standings = λ root. refl }
+  like_after limits gate (Leave seat) is none = like_after_leave gate seat (seat_at gate seat).stage
+  like_after limits gate (Lay root Exits value) is none = like_with_root gate root _ refl
+  like_after limits gate (Lay root Version value) is none = like_with_root gate root _ refl
+  like_after limits gate (Lay root Top value) is none = like_with_root gate root _ refl
+  like_after limits gate (Publish root entry) is none = absurd is
+  like_after limits gate SeatOut is none = absurd is
+  like_after limits gate (SeatBack seat) is none = absurd is
+  like_after limits gate (NoteBack note Author) is none = record { held = refl; sweep = refl; out = refl; standings = λ root. refl }
+  like_after limits gate (NoteBack note (Reader taker)) is none = record { held = refl; sweep = refl; out = refl; standings = λ root. refl }
+  like_after limits gate event is none = record { held = refl; sweep = refl; out = refl; standings = λ root. refl }
 
   -- where the first poll was to begin anew it still is
   pub begins_like : (gate next : Gate M E) → IsLike gate next → (roots : List ℕ) → BeginsAnew gate roots → BeginsAnew next roots

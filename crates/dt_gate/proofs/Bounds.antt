@@ -7,7 +7,7 @@ use Rattle.dt_gate.specs.declared.event.Event.TheVariants.{Look, Enter, Read, Le
 use Rattle.dt_gate.specs.declared.gate.Gate.{Gate}
 use Rattle.dt_gate.specs.declared.gate.Standing.{Standing}
 use Rattle.dt_gate.specs.declared.gate.Standing.TheVariants.{Free, Now, Old}
-use Rattle.dt_gate.specs.Gate.{Numbers, IsLive, root_at, fresh}
+use Rattle.dt_gate.specs.Gate.{Limits, IsLive, root_at, fresh}
 use Rattle.dt_gate.specs.Events.{IsAllowed, step}
 use Rattle.dt_gate.specs.Runs.{after, AreAllowed, IsReached}
 use Rattle.dt_gate.specs.Laws.{EntriesAreBounded, HasItsSizes}
@@ -17,27 +17,27 @@ use Rattle.dt_gate.proofs.Seats.{root_here}
 use Rattle.dt_gate.proofs.Staying.{leaves}
 use Rattle.dt_gate.proofs.Steps.{kept_step}
 
-module _ {M E : Type 0} (shows : Reading → List E → Type 0) (numbers : Numbers) where
-  pub entries_are_bounded : (gate : Gate M E) → Kept shows numbers gate → EntriesAreBounded numbers gate
+module _ {M E : Type 0} (shows : Reading → List E → Type 0) (limits : Limits) where
+  pub entries_are_bounded : (gate : Gate M E) → Kept shows limits gate → EntriesAreBounded limits gate
   entries_are_bounded gate kept = record {
     of_the_current_root = current;
     of_an_old_root = kept.counted.old_bounded;
     exits = λ root live. exits root (root_at gate root).standing refl live;
   }
     where
-      current : gate.entries ≤ numbers.entries + numbers.readers
+      current : gate.entries ≤ limits.entries + limits.readers
       current = omega (arith, kept.counted.bounded.entries)
 
-      exits : (root : ℕ) (standing : Standing) → (root_at gate root).standing ≡ standing → IsLive standing → (root_at gate root).exits ≤ numbers.entries + numbers.readers
+      exits : (root : ℕ) (standing : Standing) → (root_at gate root).standing ≡ standing → IsLive standing → (root_at gate root).exits ≤ limits.entries + limits.readers
       exits root Free is live = absurd live
       exits root Now is live = omega (arith, current, kept.counted.accounted.of_the_current_root, ap (λ k. (root_at gate k).exits) (kept.counted.one.no_other root is))
       exits root (Old entries) is live = omega (arith, kept.counted.old_bounded root entries is, kept.counted.accounted.of_an_old_root root entries is)
 
   -- no event changes how many page words there are
-  words_stay : (gate : Gate M E) (event : Event M E) → Kept shows numbers gate → IsAllowed shows numbers gate event → length (step numbers gate event).words ≡ length gate.words
-  words_stay gate event kept allowed = by_event event (leaves shows numbers gate event kept allowed)
+  words_stay : (gate : Gate M E) (event : Event M E) → Kept shows limits gate → IsAllowed shows limits gate event → length (step limits gate event).words ≡ length gate.words
+  words_stay gate event kept allowed = by_event event (leaves shows limits gate event kept allowed)
     where
-      by_event : (event : Event M E) → Leaves gate (step numbers gate event) event → length (step numbers gate event).words ≡ length gate.words
+      by_event : (event : Event M E) → Leaves gate (step limits gate event) event → length (step limits gate event).words ≡ length gate.words
       by_event (Look seat) left = refl
       by_event (Enter seat) left = refl
       by_event (Read seat word) left = refl
@@ -52,14 +52,14 @@ module _ {M E : Type 0} (shows : Reading → List E → Type 0) (numbers : Numbe
       by_event (NoteBack note taker) left = ap (λ (g : Gate M E). length g.words) left.rest
       by_event (Tell taker) left = refl
 
-  pub words_after : (events : List (Event M E)) (gate : Gate M E) → Kept shows numbers gate → AreAllowed shows numbers gate events → length (after numbers gate events).words ≡ length gate.words
+  pub words_after : (events : List (Event M E)) (gate : Gate M E) → Kept shows limits gate → AreAllowed shows limits gate events → length (after limits gate events).words ≡ length gate.words
   words_after [] gate kept allowed = refl
   words_after (event ∷ events) gate kept allowed =
-      words_after events (step numbers gate event) (kept_step shows numbers gate event kept allowed.0) allowed.1 ∙ words_stay gate event kept allowed.0
+      words_after events (step limits gate event) (kept_step shows limits gate event kept allowed.0) allowed.1 ∙ words_stay gate event kept allowed.0
 
-  pub has_its_sizes : (gate : Gate M E) → Kept shows numbers (fresh {M = M} numbers) → Kept shows numbers gate → IsReached shows numbers gate → HasItsSizes numbers gate
+  pub has_its_sizes : (gate : Gate M E) → Kept shows limits (fresh {M = M} limits) → Kept shows limits gate → IsReached shows limits gate → HasItsSizes limits gate
   has_its_sizes gate begun kept reached = record {
     roots = kept.counted.roots;
-    words = ap (λ (g : Gate M E). length g.words) (sym reached.2) ∙ words_after reached.0 (fresh numbers) begun reached.1 ∙ length-replicate (512 * numbers.pages) 0;
+    words = ap (λ (g : Gate M E). length g.words) (sym reached.2) ∙ words_after reached.0 (fresh limits) begun reached.1 ∙ length-replicate (512 * limits.pages) 0;
     current = subst (λ n. gate.current < n) kept.counted.roots (root_here gate gate.current (subst IsLive (sym kept.counted.one.named) tt));
   }

@@ -12,11 +12,11 @@ use Rattle.dt_gate.specs.declared.gate.Stage.{Stage}
 use Rattle.dt_gate.specs.declared.gate.Stage.TheVariants.{Out, Near, In, Note, Spent}
 use Rattle.dt_gate.specs.declared.gate.Standing.{Standing}
 use Rattle.dt_gate.specs.declared.gate.Standing.TheVariants.{Free, Now, Old}
-use Rattle.dt_gate.specs.Gate.{Numbers, IsLive, blank_root, root_at, seat_at, spent, is_old, IsOld}
+use Rattle.dt_gate.specs.Gate.{Limits, IsLive, blank_root, root_at, seat_at, spent, is_old, IsOld}
 use Rattle.dt_gate.specs.Events.{with_seat, with_root, after_publish, after_poll}
 use Rattle.dt_gate.specs.Counts.{one_inside, one_near, one_reader, one_unswept, is_unswept, inside, inside_unswept}
 use Rattle.dt_gate.proofs.Kept.{Counted}
-use Rattle.dt_gate.proofs.Roots.{old_is_not_now, now_is_not_old, now_is_not_free, old_is_not_free, free_is_not_now, free_is_not_old, old_is, gone_root, new_root, at_publish, polled, polled_anew, poll_leads}
+use Rattle.dt_gate.proofs.Roots.{old_is_not_now, now_is_not_old, now_is_not_free, old_is_not_free, free_is_not_now, free_is_not_old, old_is, gone_root, new_root, at_publish, polled, polled_anew, poll_leads, part_stays}
 use Rattle.dt_gate.proofs.Lists.{at_set, at_change, sum_split, one_same, one_other}
 use Rattle.dt_gate.proofs.Seats.{root_here, moves, inside_one, unswept_readers, unswept_mono}
 use Rattle.dt_gate.proofs.CountedSeats.{old_not_current, counted_copy}
@@ -37,9 +37,9 @@ or_false_right : (a b : Bool) → (a || b) ≡ false → b ≡ false
 or_false_right true b is = absurd (true≢false is)
 or_false_right false b is = is
 
-module _ {M E : Type 0} (numbers : Numbers) where
+module _ {M E : Type 0} (limits : Limits) where
   -- a root that a reader is inside is live
-  pub inside_is_live : (gate : Gate M E) → Counted numbers gate → (seat root : ℕ) (frozen : Frozen) → (seat_at gate seat).stage ≡ In root frozen → IsLive (root_at gate root).standing
+  pub inside_is_live : (gate : Gate M E) → Counted limits gate → (seat root : ℕ) (frozen : Frozen) → (seat_at gate seat).stage ≡ In root frozen → IsLive (root_at gate root).standing
   inside_is_live gate kept seat root frozen is = go (root_at gate root).standing refl
     where
       some_inside : 1 ≤ inside gate root
@@ -51,10 +51,10 @@ module _ {M E : Type 0} (numbers : Numbers) where
       go (Old entries) old = tt
 
   -- a leave: one exit more in the root, one seat less inside it
-  pub counted_leave : (gate : Gate M E) (seat root : ℕ) (frozen : Frozen) (left : Root) (to : Seat M E) → Counted numbers gate
+  pub counted_leave : (gate : Gate M E) (seat root : ℕ) (frozen : Frozen) (left : Root) (to : Seat M E) → Counted limits gate
       → (seat_at gate seat).stage ≡ In root frozen → to.stage ≡ Out
       → left.standing ≡ (root_at gate root).standing → left.exits ≡ (root_at gate root).exits + 1
-      → Counted numbers (with_seat (with_root gate root left) seat to)
+      → Counted limits (with_seat (with_root gate root left) seat to)
   counted_leave gate seat root frozen left to kept is to_out standing exits = record {
     one = record { named = same gate.current ∙ kept.one.named; no_other = λ x now. kept.one.no_other x (sym (same x) ∙ now) };
     accounted = record {
@@ -97,7 +97,7 @@ module _ {M E : Type 0} (numbers : Numbers) where
       unswept = unswept_mono next gate (λ x h. ap (λ st. is_old st && not (list_any (λ held. held == x) gate.held)) (sym (same x)) ∙ h) (set gate.seats seat to)
 
   -- a free root stays free
-  pub counted_lay : (gate : Gate M E) (root : ℕ) (laid : Root) → Counted numbers gate → (root_at gate root).standing ≡ Free → laid.standing ≡ Free → Counted numbers (with_root gate root laid)
+  pub counted_lay : (gate : Gate M E) (root : ℕ) (laid : Root) → Counted limits gate → (root_at gate root).standing ≡ Free → laid.standing ≡ Free → Counted limits (with_root gate root laid)
   counted_lay gate root laid kept free still = record {
     one = record { named = same gate.current ∙ kept.one.named; no_other = λ x now. kept.one.no_other x (sym (same x) ∙ now) };
     accounted = record {
@@ -115,8 +115,7 @@ module _ {M E : Type 0} (numbers : Numbers) where
       next = with_root gate root laid
 
       same : (x : ℕ) → (root_at next x).standing ≡ (root_at gate x).standing
-      same x = at_set (λ (r : Root). r.standing ≡ (root_at gate x).standing) blank_root gate.roots root x laid
-          (λ e. still ∙ sym free ∙ ap (λ k. (root_at gate k).standing) (sym e)) (λ n. refl) (λ past. refl)
+      same = part_stays (λ (r : Root). r.standing) gate root laid (still ∙ sym free)
 
       exits : (x : ℕ) (standing : Standing) → (root_at gate x).standing ≡ standing → ¬ (Free ≡ standing) → (root_at next x).exits + inside gate x ≡ (root_at gate x).exits + inside gate x
       exits x standing is apart = at_set (λ (r : Root). r.exits + inside gate x ≡ (root_at gate x).exits + inside gate x) blank_root gate.roots root x laid
@@ -126,8 +125,8 @@ module _ {M E : Type 0} (numbers : Numbers) where
       unswept = unswept_mono next gate (λ x h. ap (λ st. is_old st && not (list_any (λ held. held == x) gate.held)) (sym (same x)) ∙ h) gate.seats
 
   -- a publish: the current root is old, and the free root is current with no entry
-  pub counted_publish : (gate : Gate M E) (root : ℕ) (entry : E) → Counted numbers gate → (root_at gate root).standing ≡ Free
-      → (root_at gate root).laid.exits ≡ Some 0 → (root_at gate root).exits ≡ 0 → Counted numbers (after_publish gate root entry)
+  pub counted_publish : (gate : Gate M E) (root : ℕ) (entry : E) → Counted limits gate → (root_at gate root).standing ≡ Free
+      → (root_at gate root).laid.exits ≡ Some 0 → (root_at gate root).exits ≡ 0 → Counted limits (after_publish gate root entry)
   counted_publish gate root entry kept free laid exits = record {
     one = record {
       named = at (λ r. r.standing ≡ Now) root (λ e. refl) (λ n e. absurd (n refl)) (λ n m. absurd (n refl));
@@ -146,7 +145,7 @@ module _ {M E : Type 0} (numbers : Numbers) where
     bounded = record { entries = omega (arith, kept.bounded.entries); readers_are_out = kept.bounded.readers_are_out; readers_out = kept.bounded.readers_out };
     sweep = record { held = omega (arith, unswept_readers next, kept.bounded.readers_are_out); count = kept.bounded.readers_out };
     roots = length-set (set gate.roots gate.current (gone_root gate)) root (new_root gate root) ∙ length-set gate.roots gate.current (gone_root gate) ∙ kept.roots;
-    old_bounded = λ x e. at (λ r. r.standing ≡ Old e → e ≤ numbers.entries + numbers.readers) x
+    old_bounded = λ x e. at (λ r. r.standing ≡ Old e → e ≤ limits.entries + limits.readers) x
         (λ same c. absurd (now_is_not_old c)) (λ n same c. omega (arith, old_is c, kept.bounded.entries)) (λ n m old. kept.old_bounded x e old);
   }
     where
@@ -158,7 +157,7 @@ module _ {M E : Type 0} (numbers : Numbers) where
       at = at_publish gate root entry (subst IsLive (sym kept.one.named) tt) laid
 
   -- a new sweep
-  pub counted_sweep : (gate : Gate M E) → Counted numbers gate → Counted numbers (record gate { held = []; sweep = gate.out })
+  pub counted_sweep : (gate : Gate M E) → Counted limits gate → Counted limits (record gate { held = []; sweep = gate.out })
   counted_sweep gate kept =
       let next = record gate { held = []; sweep = gate.out } in
       record {
@@ -175,16 +174,16 @@ module _ {M E : Type 0} (numbers : Numbers) where
       }
 
   -- all that entered an old root have left: it is free
-  pub counted_free : (gate : Gate M E) (root entries : ℕ) → Counted numbers gate → (root_at gate root).standing ≡ Old entries → (root_at gate root).exits ≡ entries
-      → Counted numbers (with_root gate root (record (root_at gate root) { standing = Free }))
+  pub counted_free : (gate : Gate M E) (root entries : ℕ) → Counted limits gate → (root_at gate root).standing ≡ Old entries → (root_at gate root).exits ≡ entries
+      → Counted limits (with_root gate root (record (root_at gate root) { standing = Free }))
   counted_free gate root entries kept old all_left = record {
     one = record {
-      named = at (λ r. r.standing ≡ Now) gate.current (λ e. absurd (old_not_current numbers gate kept root entries old (sym e))) (λ n. kept.one.named);
+      named = at (λ r. r.standing ≡ Now) gate.current (λ e. absurd (old_not_current limits gate kept root entries old (sym e))) (λ n. kept.one.named);
       no_other = λ x. at (λ r. r.standing ≡ Now → x ≡ gate.current) x (λ e c. absurd (free_is_not_now c)) (λ n now. kept.one.no_other x now);
     };
     accounted = record {
       of_the_current_root = at (λ r. r.exits + inside gate gate.current ≡ gate.entries) gate.current
-          (λ e. absurd (old_not_current numbers gate kept root entries old (sym e))) (λ n. kept.accounted.of_the_current_root);
+          (λ e. absurd (old_not_current limits gate kept root entries old (sym e))) (λ n. kept.accounted.of_the_current_root);
       of_an_old_root = λ x e. at (λ r. r.standing ≡ Old e → r.exits + inside gate x ≡ e) x (λ same c. absurd (free_is_not_old c)) (λ n is. kept.accounted.of_an_old_root x e is);
       none_inside_a_free_root = λ x. at (λ r. r.standing ≡ Free → inside gate x ≡ 0) x
           (λ same c. omega (arith, ap (inside gate) same, all_left, kept.accounted.of_an_old_root root entries old)) (λ n is. kept.accounted.none_inside_a_free_root x is);
@@ -192,7 +191,7 @@ module _ {M E : Type 0} (numbers : Numbers) where
     bounded = record { entries = kept.bounded.entries; readers_are_out = kept.bounded.readers_are_out; readers_out = kept.bounded.readers_out };
     sweep = record { held = omega (arith, kept.sweep.held, unswept); count = kept.sweep.count };
     roots = length-set gate.roots root freed ∙ kept.roots;
-    old_bounded = λ x e. at (λ r. r.standing ≡ Old e → e ≤ numbers.entries + numbers.readers) x (λ same c. absurd (free_is_not_old c)) (λ n is. kept.old_bounded x e is);
+    old_bounded = λ x e. at (λ r. r.standing ≡ Old e → e ≤ limits.entries + limits.readers) x (λ same c. absurd (free_is_not_old c)) (λ n is. kept.old_bounded x e is);
   }
     where
       freed : Root
@@ -212,8 +211,8 @@ module _ {M E : Type 0} (numbers : Numbers) where
           (λ e c. cc) (λ n c. c)) gate.seats
 
   -- a root in which someone still is: the sweep has found one more held, and those inside it count no longer as unswept
-  pub counted_held : (gate : Gate M E) (root entries : ℕ) → Counted numbers gate → (root_at gate root).standing ≡ Old entries → (root_at gate root).exits ≢ entries
-      → list_any (λ held. held == root) gate.held ≡ false → Counted numbers (record gate { held = gate.held ++ root ∷ [] })
+  pub counted_held : (gate : Gate M E) (root entries : ℕ) → Counted limits gate → (root_at gate root).standing ≡ Old entries → (root_at gate root).exits ≢ entries
+      → list_any (λ held. held == root) gate.held ≡ false → Counted limits (record gate { held = gate.held ++ root ∷ [] })
   counted_held gate root entries kept old some_stay new =
       record {
         one = record { named = kept.one.named; no_other = kept.one.no_other };
@@ -262,15 +261,15 @@ module _ {M E : Type 0} (numbers : Numbers) where
       fewer = sum_split _ _ _ (λ (s : Seat M E). summand s.stage) gate.seats
 
   -- a poll of an old root
-  pub counted_poll : (gate : Gate M E) (root : ℕ) → Counted numbers gate → IsOld (root_at gate root).standing → Counted numbers (after_poll gate root)
-  counted_poll gate root kept old = poll_leads (Counted numbers) gate root old
+  pub counted_poll : (gate : Gate M E) (root : ℕ) → Counted limits gate → IsOld (root_at gate root).standing → Counted limits (after_poll gate root)
+  counted_poll gate root kept old = poll_leads (Counted limits) gate root old
       (λ new entries is all_left. counted_free (polled_anew gate root) root entries kept_anew is all_left)
       (λ new entries is some_stay. counted_held (polled_anew gate root) root entries kept_anew is some_stay refl)
       (λ on entries is all_left. counted_free (polled gate root) root entries kept_polled is all_left)
       (λ on entries is some_stay. counted_held (polled gate root) root entries kept_polled is some_stay (or_false_right (length gate.held == 0) _ on))
     where
-      kept_polled : Counted numbers (polled gate root)
-      kept_polled = counted_copy numbers gate (polled gate root) kept
+      kept_polled : Counted limits (polled gate root)
+      kept_polled = counted_copy limits gate (polled gate root) kept
 
-      kept_anew : Counted numbers (polled_anew gate root)
+      kept_anew : Counted limits (polled_anew gate root)
       kept_anew = counted_sweep (polled gate root) kept_polled

@@ -9,7 +9,7 @@ use Rattle.dt_gate.specs.declared.gate.Root.{Root}
 use Rattle.dt_gate.specs.declared.gate.Seat.{Seat}
 use Rattle.dt_gate.specs.declared.gate.Standing.{Standing}
 use Rattle.dt_gate.specs.declared.gate.Standing.TheVariants.{Free, Now, Old}
-use Rattle.dt_gate.specs.Gate.{Numbers, IsLive, blank_root, root_at, seat_at, IsOld}
+use Rattle.dt_gate.specs.Gate.{Limits, IsLive, blank_root, root_at, seat_at, IsOld}
 use Rattle.dt_gate.specs.Events.{with_root, with_word, MayPublish, after_publish, after_poll}
 use Rattle.dt_gate.specs.Counts.{times_entered}
 use Rattle.dt_gate.specs.Sound.{WasEntered}
@@ -20,9 +20,9 @@ use Rattle.dt_gate.proofs.EnteredSeats.{worn_more, all_worn_more, SeatIsEntered,
 
 module _ {M E : Type 0} where
   -- a look that is worn: the pair that it keeps was entered so often
-  pub worn_look : (numbers : Numbers) (shows : Reading → List E → Type 0) (gate : Gate M E) (seat : Seat M E) → Shown shows numbers gate → Entered gate → SeatIsEntered gate seat
+  pub worn_look : (limits : Limits) (shows : Reading → List E → Type 0) (gate : Gate M E) (seat : Seat M E) → Shown shows limits gate → Entered gate → SeatIsEntered gate seat
       → SeatIsEntered gate (record seat { history = gate.history; worn = seat.worn ++ (length gate.history, gate.entries) ∷ [] })
-  worn_look numbers shows gate seat shown kept is = record {
+  worn_look limits shows gate seat shown kept is = record {
     worn = All-push (WasEntered gate) seat.worn (length gate.history, gate.entries) is.worn
         (record { published = omega arith; as_often = omega (arith, kept.entries.of_the_current_root, ap (times_entered gate) shown.pages.current_version) });
     not_a_reader = is.not_a_reader;
@@ -63,9 +63,9 @@ module _ {M E : Type 0} where
           (λ same is. ap (λ k. (root_at gate k).standing) same ∙ old e is) (λ n is. is) (λ past is. is)
 
   -- a free root is laid
-  pub entered_lay : (numbers : Numbers) (gate : Gate M E) (root : ℕ) (word : RecordWord) (value : ℕ) → Counted numbers gate → Entered gate → (root_at gate root).standing ≡ Free
+  pub entered_lay : (limits : Limits) (gate : Gate M E) (root : ℕ) (word : RecordWord) (value : ℕ) → Counted limits gate → Entered gate → (root_at gate root).standing ≡ Free
       → Entered (with_root gate root (with_word (root_at gate root) word value))
-  entered_lay numbers gate root word value counted kept free = entered_roots gate (set gate.roots root to) kept
+  entered_lay limits gate root word value counted kept free = entered_roots gate (set gate.roots root to) kept
       (ap (λ (r : Root). r.version) (still gate.current Now counted.one.named (λ e. cc)))
       (λ x e is. let old = was_old x e is in (old, ap (λ (r : Root). r.version) (still x (Old e) old (λ c. cc))))
     where
@@ -87,9 +87,9 @@ module _ {M E : Type 0} where
           (λ same is. absurd (free_is_not_old (sym still_free ∙ is))) (λ n is. is) (λ past is. is)
 
   -- a publish: the new version was not entered, and the one before it as often as its entries say
-  pub entered_publish : (numbers : Numbers) (shows : Reading → List E → Type 0) (gate : Gate M E) (root : ℕ) (entry : E) → Counted numbers gate → Shown shows numbers gate → Entered gate
-      → MayPublish shows numbers gate root entry → Entered (after_publish gate root entry)
-  entered_publish numbers shows gate root entry counted shown kept may = record {
+  pub entered_publish : (limits : Limits) (shows : Reading → List E → Type 0) (gate : Gate M E) (root : ℕ) (entry : E) → Counted limits gate → Shown shows limits gate → Entered gate
+      → MayPublish shows limits gate root entry → Entered (after_publish gate root entry)
+  entered_publish limits shows gate root entry counted shown kept may = record {
     entries = record {
       of_the_current_root = at (λ r. 0 ≡ times_entered gate r.version) root (λ e. none_entered) (λ n e. absurd (n refl)) (λ n m. absurd (n refl));
       of_an_old_root = λ x e. at (λ r. r.standing ≡ Old e → e ≡ times_entered gate r.version) x

@@ -9,7 +9,7 @@ use Rattle.dt_gate.specs.declared.gate.Gate.{Gate}
 use Rattle.dt_gate.specs.declared.gate.Seat.{Seat}
 use Rattle.dt_gate.specs.declared.gate.Stage.{Stage}
 use Rattle.dt_gate.specs.declared.gate.Stage.TheVariants.{Out, Near}
-use Rattle.dt_gate.specs.Gate.{Numbers, IsLive, root_at, seat_at, spent}
+use Rattle.dt_gate.specs.Gate.{Limits, IsLive, root_at, seat_at, spent}
 use Rattle.dt_gate.specs.Events.{with_seat, given, longer, IsReader, after_enter}
 use Rattle.dt_gate.specs.Counts.{times_in, times_taken, times_entered}
 use Rattle.dt_gate.specs.Sound.{WasEntered}
@@ -124,16 +124,16 @@ module _ {M E : Type 0} where
       (entered_copy gate (record gate { joined = (gate.history, history) }) kept)
 
   -- an enter: the current version is entered once more
-  pub entered_enter : (numbers : Numbers) (shows : Reading → List E → Type 0) (gate : Gate M E) (seat : ℕ) → Counted numbers gate → Shown shows numbers gate → Entered gate → (seat_at gate seat).stage ≡ Near
+  pub entered_enter : (limits : Limits) (shows : Reading → List E → Type 0) (gate : Gate M E) (seat : ℕ) → Counted limits gate → Shown shows limits gate → Entered gate → (seat_at gate seat).stage ≡ Near
       → Entered (with_seat (record gate { entries = gate.entries + 1 }) seat (after_enter gate (seat_at gate seat)))
-  entered_enter numbers shows gate seat counted shown kept is = record {
+  entered_enter limits shows gate seat counted shown kept is = record {
     entries = record {
       of_the_current_root = omega (arith, kept.entries.of_the_current_root, times (root_at gate gate.current).version, one_same (length gate.history) (root_at gate gate.current).version (sym shown.pages.current_version));
       of_an_old_root = λ root e old. omega (
         arith,
         kept.entries.of_an_old_root root e old,
         times (root_at gate root).version,
-        one_other (length gate.history) (root_at gate root).version (λ same. old_not_current numbers gate counted root e old
+        one_other (length gate.history) (root_at gate root).version (λ same. old_not_current limits gate counted root e old
             (shown.pages.versions_are_distinct root gate.current (subst IsLive (sym old) tt) (subst IsLive (sym counted.one.named) tt) (sym same ∙ sym shown.pages.current_version))),
       );
       only_published = λ v some. elim (ℕ_discrete (length gate.history) v) [

@@ -6,7 +6,7 @@ use Rattle.dt_gate.specs.declared.gate.Gate.{Gate}
 use Rattle.dt_gate.specs.declared.gate.Root.{Root}
 use Rattle.dt_gate.specs.declared.gate.Standing.{Standing}
 use Rattle.dt_gate.specs.declared.gate.Standing.TheVariants.{Free, Now, Old}
-use Rattle.dt_gate.specs.Gate.{Numbers, blank_root, root_at, is_old}
+use Rattle.dt_gate.specs.Gate.{Limits, blank_root, root_at, is_old}
 use Rattle.dt_gate.specs.Sweeps.{old_roots, SweepLeavesRoom}
 use Rattle.dt_gate.proofs.Kept.{Kept}
 use Rattle.dt_gate.proofs.Places.{stands_in, in_head, count_places}
@@ -44,10 +44,10 @@ free_or_none (r ∷ roots) = go r.standing refl (free_or_none roots)
     go (Old entries) is (inl found) = inl (suc found.0, omega (arith, found.1), found.2)
     go (Old entries) is (inr counts) = inr (more counts (subst (λ st. 1 ≤ cond {A = ℕ} (is_old st) 1 0 + cond {A = ℕ} (is_current st) 1 0) (sym is) (omega arith)))
 
-module _ {M E : Type 0} (shows : Reading → List E → Type 0) (numbers : Numbers) where
+module _ {M E : Type 0} (shows : Reading → List E → Type 0) (limits : Limits) where
   -- where a list names every old root, and is no longer than the readers out, some root is free
-  pub room : (gate : Gate M E) → Kept shows numbers gate → (names : List ℕ) → ((root : ℕ) → is_old (root_at gate root).standing ≡ true → stands_in root names ≡ true)
-      → length names ≤ gate.out → SweepLeavesRoom numbers gate
+  pub room : (gate : Gate M E) → Kept shows limits gate → (names : List ℕ) → ((root : ℕ) → is_old (root_at gate root).standing ≡ true → stands_in root names ≡ true)
+      → length names ≤ gate.out → SweepLeavesRoom limits gate
   room gate kept names named short = record { still_old = omega (arith, old, short); some_free = found (free_or_none gate.roots) }
     where
       at_zero : (names : List ℕ) (root : ℕ) → stands_in root names ≡ true → stands_in (0 + root) names ≡ true
@@ -62,6 +62,6 @@ module _ {M E : Type 0} (shows : Reading → List E → Type 0) (numbers : Numbe
 
       found : ((root : ℕ) × (root < length gate.roots) × ((root_at gate root).standing ≡ Free))
           ⊎ (length gate.roots ≤ count_by (λ (r : Root). is_old r.standing) gate.roots + count_by (λ (r : Root). is_current r.standing) gate.roots)
-          → (root : ℕ) × (root < numbers.readers + 2) × ((root_at gate root).standing ≡ Free)
+          → (root : ℕ) × (root < limits.readers + 2) × ((root_at gate root).standing ≡ Free)
       found (inl free) = (free.0, subst (λ n. free.0 < n) kept.counted.roots free.1, free.2)
       found (inr full) = absurd (omega (arith, full, kept.counted.roots, old, current, short, kept.counted.bounded.readers_out))

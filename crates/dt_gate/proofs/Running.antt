@@ -13,7 +13,7 @@ use Rattle.dt_gate.specs.declared.gate.Stage.{Stage}
 use Rattle.dt_gate.specs.declared.gate.Stage.TheVariants.{Out, Near, In, Note, Spent}
 use Rattle.dt_gate.specs.declared.gate.Standing.{Standing}
 use Rattle.dt_gate.specs.declared.gate.Standing.TheVariants.{Free, Now, Old}
-use Rattle.dt_gate.specs.Gate.{Numbers, IsLive, pages_of, blank_root, nothing_laid, root_at, seat_at, spent, fresh}
+use Rattle.dt_gate.specs.Gate.{Limits, IsLive, pages_of, blank_root, nothing_laid, root_at, seat_at, spent, fresh}
 use Rattle.dt_gate.specs.Events.{IsReader, IsAllowed, step}
 use Rattle.dt_gate.specs.Counts.{one_reader, times_in, times_taken, times_entered}
 use Rattle.dt_gate.specs.Sound.{IsSound, WornWasTaken}
@@ -49,9 +49,9 @@ no_reader (In root frozen) none reader = absurd (omega (arith, none))
 no_reader Note none reader = reader
 no_reader Spent none reader = reader
 
-module _ {M E : Type 0} (shows : Reading → List E → Type 0) (numbers : Numbers) where
-  module _ (in_range : InRange numbers) (empty : shows blank []) where
-    pub fresh_is_kept : Kept shows numbers (fresh {M = M} numbers)
+module _ {M E : Type 0} (shows : Reading → List E → Type 0) (limits : Limits) where
+  module _ (in_range : InRange limits) (empty : shows blank []) where
+    pub fresh_is_kept : Kept shows limits (fresh {M = M} limits)
     fresh_is_kept = record {
       counted = record {
         one = record { named = refl; no_other = only_zero Now (λ c. cc) };
@@ -62,7 +62,7 @@ module _ {M E : Type 0} (shows : Reading → List E → Type 0) (numbers : Numbe
         };
         bounded = record { entries = omega arith; readers_are_out = refl; readers_out = omega arith };
         sweep = record { held = omega arith; count = omega arith };
-        roots = omega (arith, length-replicate (numbers.readers + 1) blank_root);
+        roots = omega (arith, length-replicate (limits.readers + 1) blank_root);
         old_bounded = λ x e is. absurd (never_old x e is);
       };
       shown = record {
@@ -98,10 +98,10 @@ module _ {M E : Type 0} (shows : Reading → List E → Type 0) (numbers : Numbe
     }
       where
         start : Gate M E
-        start = fresh numbers
+        start = fresh limits
 
         free_is : (x : ℕ) → root_at start (suc x) ≡ blank_root
-        free_is x = same_everywhere (numbers.readers + 1) blank_root x
+        free_is x = same_everywhere (limits.readers + 1) blank_root x
 
         only_zero : (standing : Standing) → ¬ (Free ≡ standing) → (x : ℕ) → (root_at start x).standing ≡ standing → x ≡ 0
         only_zero standing apart zero is = refl
@@ -123,29 +123,29 @@ module _ {M E : Type 0} (shows : Reading → List E → Type 0) (numbers : Numbe
         none_laid (suc x) = ap (λ (r : Root). r.laid) (free_is x)
 
         zeros : (at : ℕ) → at < 512 → pages_of start.words 0 at ≡ 0
-        zeros at below = same_everywhere (512 * numbers.pages) 0 (512 * 0 + at)
+        zeros at below = same_everywhere (512 * limits.pages) 0 (512 * 0 + at)
 
         spent_is_not_in : {root : ℕ} {frozen : _} → ¬ (Spent ≡ In root frozen)
         spent_is_not_in c = cc
 
-  pub kept_after : (events : List (Event M E)) (gate : Gate M E) → Kept shows numbers gate → AreAllowed shows numbers gate events → Kept shows numbers (after numbers gate events)
+  pub kept_after : (events : List (Event M E)) (gate : Gate M E) → Kept shows limits gate → AreAllowed shows limits gate events → Kept shows limits (after limits gate events)
   kept_after [] gate kept allowed = kept
-  kept_after (event ∷ events) gate kept allowed = kept_after events (step numbers gate event) (kept_step shows numbers gate event kept allowed.0) allowed.1
+  kept_after (event ∷ events) gate kept allowed = kept_after events (step limits gate event) (kept_step shows limits gate event kept allowed.0) allowed.1
 
   -- where no reader is out, every entry is among those that were taken
-  pub all_taken : (gate : Gate M E) → Kept shows numbers gate → gate.out ≡ 0 → (version : ℕ) → times_entered gate version ≡ times_taken gate version
+  pub all_taken : (gate : Gate M E) → Kept shows limits gate → gate.out ≡ 0 → (version : ℕ) → times_entered gate version ≡ times_taken gate version
   all_taken gate kept none version = omega (arith, no_one_out)
     where
       no_one_out : sum_by (λ (s : Seat M E). times_in version s.entered) gate.seats ≡ 0
       no_one_out = sum_zero (λ (s : Seat M E). times_in version s.entered) spent gate.seats (λ x. ap (times_in version) (kept.entered.not_a_reader x (no_reader (seat_at gate x).stage
           (summand_zero (λ (s : Seat M E). one_reader s.stage) spent gate.seats x refl (kept.counted.bounded.readers_are_out ∙ none)))))
 
-  pub worn_taken : (gate : Gate M E) → Kept shows numbers gate → WornWasTaken gate
+  pub worn_taken : (gate : Gate M E) → Kept shows limits gate → WornWasTaken gate
   worn_taken gate kept none k d below j e within =
       let look = get_or (get_or gate.worn k d) j e in
       omega (arith, (kept.entered.worn.of_those_taken_back k d below j e within).as_often, all_taken gate kept none look.0)
 
-  pub sound : (gate : Gate M E) → Kept shows numbers gate → IsSound shows numbers gate
+  pub sound : (gate : Gate M E) → Kept shows limits gate → IsSound shows limits gate
   sound gate kept = record {
     one_root_is_current = kept.counted.one;
     entries_are_accounted_for = kept.counted.accounted;
@@ -160,30 +160,30 @@ module _ {M E : Type 0} (shows : Reading → List E → Type 0) (numbers : Numbe
     };
   }
 
-  pub reached_is_kept : InRange numbers → shows blank [] → (gate : Gate M E) → IsReached shows numbers gate → Kept shows numbers gate
-  reached_is_kept in_range empty gate reached = subst (Kept shows numbers) reached.2
-      (kept_after reached.0 (fresh numbers) (fresh_is_kept in_range empty) reached.1)
+  pub reached_is_kept : InRange limits → shows blank [] → (gate : Gate M E) → IsReached shows limits gate → Kept shows limits gate
+  reached_is_kept in_range empty gate reached = subst (Kept shows limits) reached.2
+      (kept_after reached.0 (fresh limits) (fresh_is_kept in_range empty) reached.1)
 
   -- one event more
-  pub allowed_more : (events : List (Event M E)) (gate : Gate M E) (event : Event M E) → AreAllowed shows numbers gate events → IsAllowed shows numbers (after numbers gate events) event
-      → AreAllowed shows numbers gate (events ++ event ∷ [])
+  pub allowed_more : (events : List (Event M E)) (gate : Gate M E) (event : Event M E) → AreAllowed shows limits gate events → IsAllowed shows limits (after limits gate events) event
+      → AreAllowed shows limits gate (events ++ event ∷ [])
   allowed_more [] gate event all here = (here, tt)
-  allowed_more (first ∷ events) gate event all here = (all.0, allowed_more events (step numbers gate first) event all.1 here)
+  allowed_more (first ∷ events) gate event all here = (all.0, allowed_more events (step limits gate first) event all.1 here)
 
-  pub after_more : (events : List (Event M E)) (gate : Gate M E) (event : Event M E) → after numbers gate (events ++ event ∷ []) ≡ step numbers (after numbers gate events) event
+  pub after_more : (events : List (Event M E)) (gate : Gate M E) (event : Event M E) → after limits gate (events ++ event ∷ []) ≡ step limits (after limits gate events) event
   after_more [] gate event = refl
-  after_more (first ∷ events) gate event = after_more events (step numbers gate first) event
+  after_more (first ∷ events) gate event = after_more events (step limits gate first) event
 
-  pub reached_more : (gate : Gate M E) (event : Event M E) → IsReached shows numbers gate → IsAllowed shows numbers gate event → IsReached shows numbers (step numbers gate event)
+  pub reached_more : (gate : Gate M E) (event : Event M E) → IsReached shows limits gate → IsAllowed shows limits gate event → IsReached shows limits (step limits gate event)
   reached_more gate event reached allowed = (
     reached.0 ++ event ∷ [],
-    allowed_more reached.0 (fresh numbers) event reached.1 (subst (λ g. IsAllowed shows numbers g event) (sym reached.2) allowed),
-    after_more reached.0 (fresh numbers) event ∙ ap (λ g. step numbers g event) reached.2,
+    allowed_more reached.0 (fresh limits) event reached.1 (subst (λ g. IsAllowed shows limits g event) (sym reached.2) allowed),
+    after_more reached.0 (fresh limits) event ∙ ap (λ g. step limits g event) reached.2,
   )
 
-  module _ (in_range : InRange numbers) (empty : shows blank []) where
-    pub runs_are_sound : (events : List (Event M E)) → AreAllowed shows numbers (fresh numbers) events → IsSound shows numbers (after numbers (fresh numbers) events)
-    runs_are_sound events allowed = sound (after numbers (fresh numbers) events) (kept_after events (fresh numbers) (fresh_is_kept in_range empty) allowed)
+  module _ (in_range : InRange limits) (empty : shows blank []) where
+    pub runs_are_sound : (events : List (Event M E)) → AreAllowed shows limits (fresh limits) events → IsSound shows limits (after limits (fresh limits) events)
+    runs_are_sound events allowed = sound (after limits (fresh limits) events) (kept_after events (fresh limits) (fresh_is_kept in_range empty) allowed)
 
-    pub reached_is_sound : (gate : Gate M E) → IsReached shows numbers gate → IsSound shows numbers gate
+    pub reached_is_sound : (gate : Gate M E) → IsReached shows limits gate → IsSound shows limits gate
     reached_is_sound gate reached = sound gate (reached_is_kept in_range empty gate reached)

@@ -9,7 +9,7 @@ use Rattle.dt_gate.specs.declared.gate.Gate.{Gate}
 use Rattle.dt_gate.specs.declared.gate.Root.{Root}
 use Rattle.dt_gate.specs.declared.gate.Standing.{Standing}
 use Rattle.dt_gate.specs.declared.gate.Standing.TheVariants.{Old}
-use Rattle.dt_gate.specs.Gate.{Numbers, IsLive, pages_of, blank_root, root_at, IsOld}
+use Rattle.dt_gate.specs.Gate.{Limits, IsLive, pages_of, blank_root, root_at, IsOld}
 use Rattle.dt_gate.specs.Events.{with_root, MayPublish, after_publish, after_poll}
 use Rattle.dt_gate.specs.Sound.{LaidWordsStand}
 use Rattle.dt_gate.proofs.Kept.{Counted, Shown}
@@ -24,13 +24,13 @@ pub other_page : (words : List ℕ) (page at word other : ℕ) → at < 512 → 
 other_page words page at word other below apart place in_page =
     sym (get_or-set_other words (512 * page + at) (512 * other + place) word 0 (λ same. apart (omega arith)))
 
-module _ {M E : Type 0} (shows : Reading → List E → Type 0) (numbers : Numbers) where
+module _ {M E : Type 0} (shows : Reading → List E → Type 0) (limits : Limits) where
   -- a page is filled that no live root reaches
-  pub shown_fill : (gate : Gate M E) (page at word : ℕ) → Counted numbers gate → Shown shows numbers gate → page ≢ 0 → at < 512
+  pub shown_fill : (gate : Gate M E) (page at word : ℕ) → Counted limits gate → Shown shows limits gate → page ≢ 0 → at < 512
       → ((root : ℕ) → IsLive (root_at gate root).standing → ¬ Reaches (pages_of gate.words) (root_at gate root).top page)
-      → Shown shows numbers (record gate { words = set gate.words (512 * page + at) word })
+      → Shown shows limits (record gate { words = set gate.words (512 * page + at) word })
   shown_fill gate page at word counted kept not_zero below not_reached =
-      shown_roots shows numbers gate gate.current gate.roots words gate.history kept (prefix_same gate.history)
+      shown_roots shows limits gate gate.current gate.roots words gate.history kept (prefix_same gate.history)
       (λ place in_page. sym (other_page gate.words page at word 0 below (λ e. not_zero (sym e)) place in_page) ∙ kept.pages.page_zero_is_empty place in_page)
       kept.pages.current_version
       (λ x live. record {
@@ -45,7 +45,7 @@ module _ {M E : Type 0} (shows : Reading → List E → Type 0) (numbers : Numbe
       (λ seat x frozen is safe. record {
         version = refl;
         top = refl;
-        pages = λ q met. same_pages x (inside_is_live numbers gate counted seat x frozen is) q
+        pages = λ q met. same_pages x (inside_is_live limits gate counted seat x frozen is) q
             (subst (λ t. Reaches (pages_of gate.words) t q) safe.words_stay.top
             ((meets_same (pages_of frozen.words) (pages_of gate.words) levels frozen.top q safe.words_stay.pages).0 met));
       })
@@ -61,19 +61,19 @@ module _ {M E : Type 0} (shows : Reading → List E → Type 0) (numbers : Numbe
       same_reading x live = reading_same (pages_of gate.words) (pages_of words) (root_at gate x).top (same_pages x live)
 
   -- a publish
-  pub shown_publish : (gate : Gate M E) (root : ℕ) (entry : E) → Counted numbers gate → Shown shows numbers gate → MayPublish shows numbers gate root entry
-      → Shown shows numbers (after_publish gate root entry)
+  pub shown_publish : (gate : Gate M E) (root : ℕ) (entry : E) → Counted limits gate → Shown shows limits gate → MayPublish shows limits gate root entry
+      → Shown shows limits (after_publish gate root entry)
   shown_publish gate root entry counted kept may =
-      shown_copy shows numbers (record gate { current = root; roots = roots; history = history }) next
-      (shown_roots shows numbers gate root roots gate.words history kept more kept.pages.page_zero_is_empty
+      shown_copy shows limits (record gate { current = root; roots = roots; history = history }) next
+      (shown_roots shows limits gate root roots gate.words history kept more kept.pages.page_zero_is_empty
       (at (λ r. r.version ≡ length history) root (λ e. new_version) (λ n e. absurd (n refl)) (λ n m. absurd (n refl)))
-      (λ x. at (λ r. IsLive r.standing → RootIsShown shows numbers (pages_of gate.words) history r) x
+      (λ x. at (λ r. IsLive r.standing → RootIsShown shows limits (pages_of gate.words) history r) x
       (λ e live. new_is_shown)
-      (λ n e live. longer_is_shown (root_at gate gate.current) (Old gate.entries) (root_is_shown shows numbers gate kept gate.current current_live))
-      (λ n m live. longer_is_shown (root_at gate x) (root_at gate x).standing (root_is_shown shows numbers gate kept x live)))
+      (λ n e live. longer_is_shown (root_at gate gate.current) (Old gate.entries) (root_is_shown shows limits gate kept gate.current current_live))
+      (λ n m live. longer_is_shown (root_at gate x) (root_at gate x).standing (root_is_shown shows limits gate kept x live)))
       distinct
       (λ x. at LaidWordsStand x (λ e. nothing_stands (new_root gate root) refl) (λ n e. nothing_stands (gone_root gate) (kept.live_is_laid gate.current current_live)) (λ n m. kept.pages.laid_words_stand x))
-      (λ seat x frozen is safe. let apart = λ (e : x ≡ root). free_is_dead (subst (λ k. IsLive (root_at gate k).standing) e (inside_is_live numbers gate counted seat x frozen is)) in
+      (λ seat x frozen is safe. let apart = λ (e : x ≡ root). free_is_dead (subst (λ k. IsLive (root_at gate k).standing) e (inside_is_live limits gate counted seat x frozen is)) in
       record { version = still (λ r. r.version) x apart refl; top = still (λ r. r.top) x apart refl; pages = λ page met in_page below. refl }))
     where
       next : Gate M E
@@ -110,7 +110,7 @@ module _ {M E : Type 0} (shows : Reading → List E → Type 0) (numbers : Numbe
       new_top : may.top ≡ (root_at gate root).top
       new_top = (kept.pages.laid_words_stand root).top may.top may.top_is_laid
 
-      new_is_shown : RootIsShown shows numbers (pages_of gate.words) history (new_root gate root)
+      new_is_shown : RootIsShown shows limits (pages_of gate.words) history (new_root gate root)
       new_is_shown = record {
         version = subst (λ t. shows (reading (pages_of gate.words) t) (take (root_at gate root).version history)) new_top
             (subst (shows (reading (pages_of gate.words) may.top)) (sym (take_all (root_at gate root).version history (le_of_eq (sym new_version)))) may.top_shows);
@@ -120,8 +120,8 @@ module _ {M E : Type 0} (shows : Reading → List E → Type 0) (numbers : Numbe
       }
 
       -- an older version shows what it did
-      longer_is_shown : (r : Root) (standing : Standing) → RootIsShown shows numbers (pages_of gate.words) gate.history r
-          → RootIsShown shows numbers (pages_of gate.words) history (record r { standing = standing })
+      longer_is_shown : (r : Root) (standing : Standing) → RootIsShown shows limits (pages_of gate.words) gate.history r
+          → RootIsShown shows limits (pages_of gate.words) history (record r { standing = standing })
       longer_is_shown r standing is = record {
         version = subst (shows (reading (pages_of gate.words) r.top)) (sym (take_prefix r.version gate.history history more is.published)) is.version;
         in_bounds = is.in_bounds;
@@ -151,12 +151,12 @@ module _ {M E : Type 0} (shows : Reading → List E → Type 0) (numbers : Numbe
           newest x e = at (λ r. r.version ≡ length history) x (λ _. new_version) (λ n _. absurd (n e)) (λ n m. absurd (n e))
 
   -- a poll
-  pub shown_poll : (gate : Gate M E) (root : ℕ) → Shown shows numbers gate → IsOld (root_at gate root).standing → Shown shows numbers (after_poll gate root)
-  shown_poll gate root kept old = poll_leads (Shown shows numbers) gate root old
-      (λ new entries is all_left. frees (polled_anew gate root) entries (shown_copy shows numbers gate (polled_anew gate root) kept) is)
-      (λ new entries is some_stay. shown_copy shows numbers gate (record (polled_anew gate root) { held = root ∷ [] }) kept)
-      (λ on entries is all_left. frees (polled gate root) entries (shown_copy shows numbers gate (polled gate root) kept) is)
-      (λ on entries is some_stay. shown_copy shows numbers gate (record (polled gate root) { held = gate.held ++ root ∷ [] }) kept)
+  pub shown_poll : (gate : Gate M E) (root : ℕ) → Shown shows limits gate → IsOld (root_at gate root).standing → Shown shows limits (after_poll gate root)
+  shown_poll gate root kept old = poll_leads (Shown shows limits) gate root old
+      (λ new entries is all_left. frees (polled_anew gate root) entries (shown_copy shows limits gate (polled_anew gate root) kept) is)
+      (λ new entries is some_stay. shown_copy shows limits gate (record (polled_anew gate root) { held = root ∷ [] }) kept)
+      (λ on entries is all_left. frees (polled gate root) entries (shown_copy shows limits gate (polled gate root) kept) is)
+      (λ on entries is some_stay. shown_copy shows limits gate (record (polled gate root) { held = gate.held ++ root ∷ [] }) kept)
     where
-      frees : (start : Gate M E) (entries : ℕ) → Shown shows numbers start → (root_at start root).standing ≡ Old entries → Shown shows numbers (with_root start root (freed_root start root))
-      frees start entries kept_start is = shown_with_root shows numbers start root (freed_root start root) kept_start refl refl refl (subst IsLive (sym is) tt)
+      frees : (start : Gate M E) (entries : ℕ) → Shown shows limits start → (root_at start root).standing ≡ Old entries → Shown shows limits (with_root start root (freed_root start root))
+      frees start entries kept_start is = shown_with_root shows limits start root (freed_root start root) kept_start refl refl refl (subst IsLive (sym is) tt)

@@ -10,7 +10,7 @@ use Rattle.dt_gate.specs.declared.gate.Laid.{Laid}
 use Rattle.dt_gate.specs.declared.gate.Frozen.{Frozen}
 use Rattle.dt_gate.specs.declared.gate.Stage.TheVariants.{In}
 use Rattle.dt_gate.specs.declared.gate.Standing.TheVariants.{Free}
-use Rattle.dt_gate.specs.Gate.{Numbers, IsLive, pages_of, blank_root, nothing_laid, root_at, seat_at}
+use Rattle.dt_gate.specs.Gate.{Limits, IsLive, pages_of, blank_root, nothing_laid, root_at, seat_at}
 use Rattle.dt_gate.specs.Events.{with_root, with_word}
 use Rattle.dt_gate.specs.Sound.{LaidWordsStand, InsideIsSafe}
 use Rattle.dt_gate.proofs.Kept.{Counted, Shown}
@@ -29,14 +29,14 @@ nothing_stands root none = record {
 }
 
 -- a root as a live one may stand over these pages beside this history
-pub record RootIsShown {E : Type 0} (shows : Reading → List E → Type 0) (numbers : Numbers) (pages : Pages) (history : List E) (root : Root) : Type 0 where
+pub record RootIsShown {E : Type 0} (shows : Reading → List E → Type 0) (limits : Limits) (pages : Pages) (history : List E) (root : Root) : Type 0 where
   pub version : shows (reading pages root.top) (take root.version history)
-  pub in_bounds : (page : ℕ) → Reaches pages root.top page → page < numbers.pages
+  pub in_bounds : (page : ℕ) → Reaches pages root.top page → page < limits.pages
   pub laid : root.laid ≡ nothing_laid
   pub published : root.version ≤ length history
 
-module _ {M E : Type 0} (shows : Reading → List E → Type 0) (numbers : Numbers) where
-  pub root_is_shown : (gate : Gate M E) → Shown shows numbers gate → (root : ℕ) → IsLive (root_at gate root).standing → RootIsShown shows numbers (pages_of gate.words) gate.history (root_at gate root)
+module _ {M E : Type 0} (shows : Reading → List E → Type 0) (limits : Limits) where
+  pub root_is_shown : (gate : Gate M E) → Shown shows limits gate → (root : ℕ) → IsLive (root_at gate root).standing → RootIsShown shows limits (pages_of gate.words) gate.history (root_at gate root)
   root_is_shown gate kept root live = record {
     version = kept.pages.each_shows_its_version root live;
     in_bounds = kept.pages.reach_is_in_bounds root live;
@@ -45,16 +45,16 @@ module _ {M E : Type 0} (shows : Reading → List E → Type 0) (numbers : Numbe
   }
 
   -- the current root, the roots, the words and the history change
-  pub shown_roots : (gate : Gate M E) (current : ℕ) (roots : List Root) (words : List ℕ) (history : List E) → Shown shows numbers gate → IsPrefix gate.history history
+  pub shown_roots : (gate : Gate M E) (current : ℕ) (roots : List Root) (words : List ℕ) (history : List E) → Shown shows limits gate → IsPrefix gate.history history
       → ((at : ℕ) → at < 512 → pages_of words 0 at ≡ 0)
       → (get_or roots current blank_root).version ≡ length history
-      → ((root : ℕ) → IsLive (get_or roots root blank_root).standing → RootIsShown shows numbers (pages_of words) history (get_or roots root blank_root))
+      → ((root : ℕ) → IsLive (get_or roots root blank_root).standing → RootIsShown shows limits (pages_of words) history (get_or roots root blank_root))
       → ((root other : ℕ) → IsLive (get_or roots root blank_root).standing → IsLive (get_or roots other blank_root).standing
       → (get_or roots root blank_root).version ≡ (get_or roots other blank_root).version → root ≡ other)
       → ((root : ℕ) → LaidWordsStand (get_or roots root blank_root))
       → ((seat root : ℕ) (frozen : Frozen) → (seat_at gate seat).stage ≡ In root frozen → InsideIsSafe shows gate (seat_at gate seat) root frozen
       → StaysFrozen shows gate (record gate { current = current; roots = roots; words = words; history = history }) root frozen)
-      → Shown shows numbers (record gate { current = current; roots = roots; words = words; history = history })
+      → Shown shows limits (record gate { current = current; roots = roots; words = words; history = history })
   shown_roots gate current roots words history kept more zeros version each distinct laid stays = record {
     pages = record {
       page_zero_is_empty = zeros;
@@ -82,16 +82,16 @@ module _ {M E : Type 0} (shows : Reading → List E → Type 0) (numbers : Numbe
       next = record gate { current = current; roots = roots; words = words; history = history }
 
   -- a root changes that keeps its version and its top, as at a leave and at a poll
-  pub shown_with_root : (gate : Gate M E) (root : ℕ) (to : Root) → Shown shows numbers gate
+  pub shown_with_root : (gate : Gate M E) (root : ℕ) (to : Root) → Shown shows limits gate
       → to.version ≡ (root_at gate root).version → to.top ≡ (root_at gate root).top → to.laid ≡ (root_at gate root).laid
-      → IsLive (root_at gate root).standing → Shown shows numbers (with_root gate root to)
+      → IsLive (root_at gate root).standing → Shown shows limits (with_root gate root to)
   shown_with_root gate root to kept version top laid live =
       shown_roots gate gate.current (set gate.roots root to) gate.words gate.history kept (prefix_same gate.history) kept.pages.page_zero_is_empty
       (at_version gate.current ∙ kept.pages.current_version)
       (λ x is. let was = was_live x is in record {
         version = subst (λ t. shows (reading (pages_of gate.words) t) (take (root_at next x).version gate.history)) (sym (at_top x))
             (subst (λ v. shows (reading (pages_of gate.words) (root_at gate x).top) (take v gate.history)) (sym (at_version x)) (kept.pages.each_shows_its_version x was));
-        in_bounds = λ page. subst (λ t. Reaches (pages_of gate.words) t page → page < numbers.pages) (sym (at_top x)) (kept.pages.reach_is_in_bounds x was page);
+        in_bounds = λ page. subst (λ t. Reaches (pages_of gate.words) t page → page < limits.pages) (sym (at_top x)) (kept.pages.reach_is_in_bounds x was page);
         laid = at_laid x ∙ kept.live_is_laid x was;
         published = subst (λ v. v ≤ length gate.history) (sym (at_version x)) (kept.live_version x was);
       })
@@ -117,16 +117,16 @@ module _ {M E : Type 0} (shows : Reading → List E → Type 0) (numbers : Numbe
           (λ e is. subst (λ k. IsLive (root_at gate k).standing) (sym e) live) (λ n is. is) (λ past is. is)
 
   -- a free root is laid
-  pub shown_lay : (gate : Gate M E) (root : ℕ) (word : RecordWord) (value : ℕ) → Counted numbers gate → Shown shows numbers gate → (root_at gate root).standing ≡ Free
-      → Shown shows numbers (with_root gate root (with_word (root_at gate root) word value))
+  pub shown_lay : (gate : Gate M E) (root : ℕ) (word : RecordWord) (value : ℕ) → Counted limits gate → Shown shows limits gate → (root_at gate root).standing ≡ Free
+      → Shown shows limits (with_root gate root (with_word (root_at gate root) word value))
   shown_lay gate root word value counted kept free =
       shown_roots gate gate.current (set gate.roots root to) gate.words gate.history kept (prefix_same gate.history) kept.pages.page_zero_is_empty
       (ap (λ (r : Root). r.version) (still gate.current (subst IsLive (sym counted.one.named) tt)) ∙ kept.pages.current_version)
-      (λ x is. let was = was_live x is in subst (RootIsShown shows numbers (pages_of gate.words) gate.history) (sym (still x was)) (root_is_shown gate kept x was))
+      (λ x is. let was = was_live x is in subst (RootIsShown shows limits (pages_of gate.words) gate.history) (sym (still x was)) (root_is_shown gate kept x was))
       (λ x y lx ly same. kept.pages.versions_are_distinct x y (was_live x lx) (was_live y ly)
       (sym (ap (λ (r : Root). r.version) (still x (was_live x lx))) ∙ same ∙ ap (λ (r : Root). r.version) (still y (was_live y ly))))
       (λ x. at_set LaidWordsStand blank_root gate.roots root x to (λ e. laid word) (λ n. kept.pages.laid_words_stand x) (λ past. kept.pages.laid_words_stand x))
-      (λ seat x frozen is safe. let same = still x (inside_is_live numbers gate counted seat x frozen is) in
+      (λ seat x frozen is safe. let same = still x (inside_is_live limits gate counted seat x frozen is) in
       record { version = ap (λ (r : Root). r.version) same; top = ap (λ (r : Root). r.top) same; pages = λ page met at below. refl })
     where
       to : Root

@@ -9,7 +9,7 @@ use Rattle.dt_gate.specs.declared.gate.Seat.{Seat}
 use Rattle.dt_gate.specs.declared.gate.Stage.{Stage}
 use Rattle.dt_gate.specs.declared.gate.Stage.TheVariants.{Out, Near, In, Note, Spent}
 use Rattle.dt_gate.specs.declared.gate.Standing.TheVariants.{Now}
-use Rattle.dt_gate.specs.Gate.{Numbers, IsLive, pages_of, root_at, seat_at, spent}
+use Rattle.dt_gate.specs.Gate.{Limits, IsLive, pages_of, root_at, seat_at, spent}
 use Rattle.dt_gate.specs.Events.{with_seat, longer, frozen_now, after_enter}
 use Rattle.dt_gate.specs.Sound.{InsideIsSafe}
 use Rattle.dt_gate.proofs.Kept.{Shown}
@@ -43,8 +43,8 @@ module _ {M E : Type 0} (shows : Reading → List E → Type 0) where
     pub history : IsPrefix seat.history gate.history
     pub joined : IsPrefix seat.joined.0 seat.history × IsPrefix seat.joined.1 seat.history
 
-  pub seat_is_shown : (numbers : Numbers) (gate : Gate M E) → Shown shows numbers gate → (seat : ℕ) → SeatIsShown gate (seat_at gate seat)
-  seat_is_shown numbers gate kept seat = record { safe = kept.pages.inside_is_safe seat; history = kept.prefixes.of_a_seat seat; joined = kept.prefixes.joined_by_a_seat seat }
+  pub seat_is_shown : (limits : Limits) (gate : Gate M E) → Shown shows limits gate → (seat : ℕ) → SeatIsShown gate (seat_at gate seat)
+  seat_is_shown limits gate kept seat = record { safe = kept.pages.inside_is_safe seat; history = kept.prefixes.of_a_seat seat; joined = kept.prefixes.joined_by_a_seat seat }
 
   -- a seat that is not inside
   pub outside_is_shown : (gate : Gate M E) (seat : Seat M E) → ((root : ℕ) (frozen : Frozen) → ¬ (seat.stage ≡ In root frozen)) → IsPrefix seat.history gate.history
@@ -54,10 +54,10 @@ module _ {M E : Type 0} (shows : Reading → List E → Type 0) where
   pub spent_is_shown : (gate : Gate M E) → SeatIsShown gate spent
   spent_is_shown gate = outside_is_shown gate spent (λ root frozen is. cc) (prefix_empty gate.history) (prefix_empty [], prefix_empty [])
 
-  module _ (numbers : Numbers) where
+  module _ (limits : Limits) where
     -- the seats change, and what is not seen here
-    pub shown_seats : (gate other : Gate M E) (seats : List (Seat M E)) → Shown shows numbers gate → ((seat : ℕ) → SeatIsShown gate (get_or seats seat spent))
-        → Shown shows numbers (record other { current = gate.current; roots = gate.roots; words = gate.words; history = gate.history; joined = gate.joined; seats = seats })
+    pub shown_seats : (gate other : Gate M E) (seats : List (Seat M E)) → Shown shows limits gate → ((seat : ℕ) → SeatIsShown gate (get_or seats seat spent))
+        → Shown shows limits (record other { current = gate.current; roots = gate.roots; words = gate.words; history = gate.history; joined = gate.joined; seats = seats })
     shown_seats gate other seats kept each = record {
       pages = record {
         page_zero_is_empty = kept.pages.page_zero_is_empty;
@@ -81,22 +81,22 @@ module _ {M E : Type 0} (shows : Reading → List E → Type 0) where
         next : Gate M E
         next = record other { current = gate.current; roots = gate.roots; words = gate.words; history = gate.history; joined = gate.joined; seats = seats }
 
-    pub shown_copy : (gate other : Gate M E) → Shown shows numbers gate
-        → Shown shows numbers (record other { current = gate.current; roots = gate.roots; words = gate.words; history = gate.history; joined = gate.joined; seats = gate.seats })
-    shown_copy gate other kept = shown_seats gate other gate.seats kept (seat_is_shown numbers gate kept)
+    pub shown_copy : (gate other : Gate M E) → Shown shows limits gate
+        → Shown shows limits (record other { current = gate.current; roots = gate.roots; words = gate.words; history = gate.history; joined = gate.joined; seats = gate.seats })
+    shown_copy gate other kept = shown_seats gate other gate.seats kept (seat_is_shown limits gate kept)
 
-    pub shown_with_seat : (gate : Gate M E) (seat : ℕ) (to : Seat M E) → Shown shows numbers gate → SeatIsShown gate to → Shown shows numbers (with_seat gate seat to)
+    pub shown_with_seat : (gate : Gate M E) (seat : ℕ) (to : Seat M E) → Shown shows limits gate → SeatIsShown gate to → Shown shows limits (with_seat gate seat to)
     shown_with_seat gate seat to kept new = shown_seats gate gate (set gate.seats seat to) kept
-        (λ x. at_set (SeatIsShown gate) spent gate.seats seat x to (λ e. new) (λ n. seat_is_shown numbers gate kept x) (λ past. seat_is_shown numbers gate kept x))
+        (λ x. at_set (SeatIsShown gate) spent gate.seats seat x to (λ e. new) (λ n. seat_is_shown limits gate kept x) (λ past. seat_is_shown limits gate kept x))
 
-    pub shown_push : (gate : Gate M E) (new : Seat M E) → Shown shows numbers gate → SeatIsShown gate new → Shown shows numbers (record gate { seats = gate.seats ++ new ∷ [] })
+    pub shown_push : (gate : Gate M E) (new : Seat M E) → Shown shows limits gate → SeatIsShown gate new → Shown shows limits (record gate { seats = gate.seats ++ new ∷ [] })
     shown_push gate new kept is = shown_seats gate gate (gate.seats ++ new ∷ []) kept
-        (λ x. at_push (SeatIsShown gate) spent gate.seats new x is (seat_is_shown numbers gate kept x) (spent_is_shown gate))
+        (λ x. at_push (SeatIsShown gate) spent gate.seats new x is (seat_is_shown limits gate kept x) (spent_is_shown gate))
 
     -- the author takes in a history that is a prefix of its own
-    pub shown_joined : (gate : Gate M E) (history : List E) → Shown shows numbers gate → IsPrefix history gate.history
-        → Shown shows numbers (record gate { history = longer gate.history history; joined = (gate.history, history) })
-    shown_joined gate history kept seen = subst (λ h. Shown shows numbers (record gate { history = h; joined = (gate.history, history) })) (sym (longer_mine gate.history history seen)) (record {
+    pub shown_joined : (gate : Gate M E) (history : List E) → Shown shows limits gate → IsPrefix history gate.history
+        → Shown shows limits (record gate { history = longer gate.history history; joined = (gate.history, history) })
+    shown_joined gate history kept seen = subst (λ h. Shown shows limits (record gate { history = h; joined = (gate.history, history) })) (sym (longer_mine gate.history history seen)) (record {
       pages = record {
         page_zero_is_empty = kept.pages.page_zero_is_empty;
         current_version = kept.pages.current_version;
@@ -135,7 +135,7 @@ module _ {M E : Type 0} (shows : Reading → List E → Type 0) where
     }
 
     -- a reader enters
-    pub enter_is_shown : (gate : Gate M E) (seat : Seat M E) → Shown shows numbers gate → (root_at gate gate.current).standing ≡ Now → SeatIsShown gate seat → SeatIsShown gate (after_enter gate seat)
+    pub enter_is_shown : (gate : Gate M E) (seat : Seat M E) → Shown shows limits gate → (root_at gate gate.current).standing ≡ Now → SeatIsShown gate seat → SeatIsShown gate (after_enter gate seat)
     enter_is_shown gate seat kept now is = record {
       safe = λ root frozen inside. subst (λ st. stage_safe st (after_enter gate seat)) inside current_is_safe;
       history = prefix_same gate.history;

@@ -3,7 +3,7 @@ use Rattle.std.proofs.Common.{◌≡◌, ◌≢◌, ◌⊎◌, ℕ, zero, suc, �
 use Rattle.dt_pages.specs.Reading.{Pages, Reading, Meets, Reaches, levels}
 use Rattle.dt_pages.proofs.Readings.{zero_meets}
 use Rattle.dt_gate.specs.declared.gate.Gate.{Gate}
-use Rattle.dt_gate.specs.Gate.{Numbers, IsLive, pages_of, root_at}
+use Rattle.dt_gate.specs.Gate.{Limits, IsLive, pages_of, root_at}
 use Rattle.dt_gate.proofs.Kept.{Kept}
 use Rattle.dt_gate.proofs.Lists.{at_set}
 use Rattle.dt_gate.proofs.Running.{same_everywhere}
@@ -37,8 +37,8 @@ pub bounded_set : (words : List ℕ) (bound i word : ℕ) → word < bound → (
 bounded_set words bound i word below all j = at_set (λ w. w < bound) 0 words i j word (λ e. below) (λ n. all j) (λ past. all j)
 
 -- while only root 0 is live, and its top is page 0, no other page is reached
-pub not_reached : {M E : Type 0} (shows : Reading → List E → Type 0) (numbers : Numbers) (gate : Gate M E) → Kept shows numbers gate
+pub not_reached : {M E : Type 0} (shows : Reading → List E → Type 0) (limits : Limits) (gate : Gate M E) → Kept shows limits gate
     → ((root : ℕ) → IsLive (root_at gate root).standing → (root_at gate root).top ≡ 0) → (page : ℕ) → page ≢ 0
     → (root : ℕ) → IsLive (root_at gate root).standing → ¬ Reaches (pages_of gate.words) (root_at gate root).top page
-not_reached shows numbers gate kept only page other root live met =
+not_reached shows limits gate kept only page other root live met =
     other (zero_meets (pages_of gate.words) kept.shown.pages.page_zero_is_empty levels page (subst (λ t. Reaches (pages_of gate.words) t page) (only root live) met))

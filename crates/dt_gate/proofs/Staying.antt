@@ -12,7 +12,7 @@ use Rattle.dt_gate.specs.declared.gate.Root.{Root}
 use Rattle.dt_gate.specs.declared.gate.Seat.{Seat}
 use Rattle.dt_gate.specs.declared.gate.Stage.{Stage}
 use Rattle.dt_gate.specs.declared.gate.Stage.TheVariants.{Out, Near, In, Note, Spent}
-use Rattle.dt_gate.specs.Gate.{Numbers, blank_root, root_at, seat_at, spent, IsOld}
+use Rattle.dt_gate.specs.Gate.{Limits, blank_root, root_at, seat_at, spent, IsOld}
 use Rattle.dt_gate.specs.Events.{IsAllowed, step, with_seat, with_root, with_word, joined_by, after_leave, after_look, after_enter, after_publish, after_poll}
 use Rattle.dt_gate.specs.Stays.{ButExits, SameWords, OtherSeatsStay, OtherRootsStay, OtherWordsStay, LeaveLeaves, FillLeaves, LayLeaves, PublishLeaves, PollLeaves, SeatBackLeaves, NoteBackLeaves, Leaves}
 use Rattle.dt_gate.proofs.Kept.{Kept}
@@ -41,7 +41,7 @@ same_words r = record { exits = refl; version = refl; top = refl }
 but_exits : (r : Root) → ButExits r r
 but_exits r = record { version = refl; top = refl; standing = refl; laid = refl }
 
-module _ {M E : Type 0} (shows : Reading → List E → Type 0) (numbers : Numbers) where
+module _ {M E : Type 0} (shows : Reading → List E → Type 0) (limits : Limits) where
   leave_leaves : (gate : Gate M E) (seat : ℕ) (stage : Stage) → LeaveLeaves gate (after_leave gate seat stage) seat
   leave_leaves gate seat Out = record { rest = refl; other_seats = λ x n. refl; roots = λ x. but_exits (root_at gate x) }
   leave_leaves gate seat Near = record { rest = refl; other_seats = λ x n. refl; roots = λ x. but_exits (root_at gate x) }
@@ -54,14 +54,14 @@ module _ {M E : Type 0} (shows : Reading → List E → Type 0) (numbers : Numbe
         (record { version = refl; top = refl; standing = refl; laid = refl });
   }
 
-  fill_leaves : (gate : Gate M E) (page at word : ℕ) → at < 512 → FillLeaves gate (step numbers gate (Fill page at word)) page at
+  fill_leaves : (gate : Gate M E) (page at word : ℕ) → at < 512 → FillLeaves gate (step limits gate (Fill page at word)) page at
   fill_leaves gate page at word below = record { rest = refl; other_words = others }
     where
-      others : OtherWordsStay gate (step numbers gate (Fill page at word)) page at
+      others : OtherWordsStay gate (step limits gate (Fill page at word)) page at
       others other place in_page (inl apart) = get_or-set_other gate.words (512 * page + at) (512 * other + place) word 0 (λ same. apart (omega arith))
       others other place in_page (inr apart) = get_or-set_other gate.words (512 * page + at) (512 * other + place) word 0 (λ same. apart (omega arith))
 
-  lay_leaves : (gate : Gate M E) (root : ℕ) (word : RecordWord) (value : ℕ) → LayLeaves gate (step numbers gate (Lay root word value)) root
+  lay_leaves : (gate : Gate M E) (root : ℕ) (word : RecordWord) (value : ℕ) → LayLeaves gate (step limits gate (Lay root word value)) root
   lay_leaves gate root word value = record {
     rest = refl;
     other_roots = other_roots gate root (with_word (root_at gate root) word value);
@@ -91,15 +91,15 @@ module _ {M E : Type 0} (shows : Reading → List E → Type 0) (numbers : Numbe
   pushed : (gate : Gate M E) (new : Seat M E) (seat : ℕ) → seat < length gate.seats → get_or (gate.seats ++ new ∷ []) seat spent ≡ seat_at gate seat
   pushed gate new seat below = get_or_append_left gate.seats (new ∷ []) spent seat below
 
-  seat_back_leaves : (gate : Gate M E) (seat : ℕ) → Kept shows numbers gate → SeatBackLeaves gate (step numbers gate (SeatBack seat)) seat
+  seat_back_leaves : (gate : Gate M E) (seat : ℕ) → Kept shows limits gate → SeatBackLeaves gate (step limits gate (SeatBack seat)) seat
   seat_back_leaves gate seat kept = record {
-    rest = ap (λ h. record (step numbers gate (SeatBack seat)) { history = h }) (longer_mine gate.history (seat_at gate seat).history (kept.shown.prefixes.of_a_seat seat));
+    rest = ap (λ h. record (step limits gate (SeatBack seat)) { history = h }) (longer_mine gate.history (seat_at gate seat).history (kept.shown.prefixes.of_a_seat seat));
     other_seats = λ other apart. other_seats gate seat spent other apart;
   }
 
-  note_back_leaves : (gate : Gate M E) (note : ℕ) (taker : Holder) → Kept shows numbers gate → NoteBackLeaves gate (step numbers gate (NoteBack note taker)) note taker
+  note_back_leaves : (gate : Gate M E) (note : ℕ) (taker : Holder) → Kept shows limits gate → NoteBackLeaves gate (step limits gate (NoteBack note taker)) note taker
   note_back_leaves gate note Author kept = record {
-    rest = ap (λ h. record (step numbers gate (NoteBack note Author)) { history = h }) (longer_mine gate.history (seat_at gate note).history (kept.shown.prefixes.of_a_seat note));
+    rest = ap (λ h. record (step limits gate (NoteBack note Author)) { history = h }) (longer_mine gate.history (seat_at gate note).history (kept.shown.prefixes.of_a_seat note));
     other_seats = λ other apart other_taker. other_seats gate note spent other apart;
   }
   note_back_leaves gate note (Reader taker) kept = record {
@@ -109,8 +109,8 @@ module _ {M E : Type 0} (shows : Reading → List E → Type 0) (numbers : Numbe
         ∙ get_or-set_other gate.seats taker other _ spent (λ same. other_taker (ap Reader (sym same)));
   }
 
-  pub leaves : (gate : Gate M E) (event : Event M E) → Kept shows numbers gate → IsAllowed shows numbers gate event → Leaves gate (step numbers gate event) event
-  leaves gate (Look seat) kept allowed = record { rest = refl; other_seats = other_seats gate seat (after_look numbers gate (seat_at gate seat)) }
+  pub leaves : (gate : Gate M E) (event : Event M E) → Kept shows limits gate → IsAllowed shows limits gate event → Leaves gate (step limits gate event) event
+  leaves gate (Look seat) kept allowed = record { rest = refl; other_seats = other_seats gate seat (after_look limits gate (seat_at gate seat)) }
   leaves gate (Enter seat) kept allowed = record { rest = refl; other_seats = λ other apart. other_seats gate seat (after_enter gate (seat_at gate seat)) other apart }
   leaves gate (Read seat word) kept allowed = refl
   leaves gate (Leave seat) kept allowed = leave_leaves gate seat (seat_at gate seat).stage

@@ -9,7 +9,7 @@ use Rattle.dt_gate.specs.declared.event.Event.TheVariants.{Poll}
 use Rattle.dt_gate.specs.declared.gate.Gate.{Gate}
 use Rattle.dt_gate.specs.declared.gate.Root.{Root}
 use Rattle.dt_gate.specs.declared.gate.Standing.TheVariants.{Old}
-use Rattle.dt_gate.specs.Gate.{Numbers, IsLive, blank_root, root_at, is_old, IsOld}
+use Rattle.dt_gate.specs.Gate.{Limits, IsLive, blank_root, root_at, is_old, IsOld}
 use Rattle.dt_gate.specs.Events.{with_root, is_new_sweep, after_poll, step}
 use Rattle.dt_gate.specs.Runs.{after, AreAllowed}
 use Rattle.dt_gate.specs.Sweeps.{AreDistinct, poll_of, polled_roots, IsOfSweep, IsSweep, SweepLeavesRoom, PollDecides}
@@ -138,10 +138,10 @@ module _ {M E : Type 0} where
     pub these : (root : ℕ) → stands_in root roots ≡ true → stands_in root all_done ≡ true
     pub before : (root : ℕ) → stands_in root done ≡ true → stands_in root all_done ≡ true
 
-  module _ (shows : Reading → List E → Type 0) (numbers : Numbers) where
+  module _ (shows : Reading → List E → Type 0) (limits : Limits) where
     swept_all : (events : List (Event M E)) (begun : Gate M E) (done : List ℕ) (gate : Gate M E) → IsSweeping begun done gate → AreDistinct (polled_roots events)
-        → ((root : ℕ) → stands_in root (polled_roots events) ≡ true → stands_in root done ≡ false) → AllByRecursion IsOfSweep events → AreAllowed shows numbers gate events
-        → IsSwept begun done (polled_roots events) (after numbers gate events)
+        → ((root : ℕ) → stands_in root (polled_roots events) ≡ true → stands_in root done ≡ false) → AllByRecursion IsOfSweep events → AreAllowed shows limits gate events
+        → IsSwept begun done (polled_roots events) (after limits gate events)
     swept_all [] begun done gate so_far distinct new of_sweep allowed = record { all_done = done; sweeping = so_far; these = λ root is. absurd (true≢false (sym is)); before = λ root is. is }
     swept_all (Poll first ∷ events) begun done gate so_far distinct new of_sweep allowed =
         let rest = swept_all events begun (first ∷ done) (after_poll gate first) (sweeping_next begun done gate first so_far (new first (in_head first first (polled_roots events) refl)) allowed.0)
@@ -163,27 +163,27 @@ module _ {M E : Type 0} where
             neither true b n e = absurd (n refl)
             neither false b n e = e
 
-        which : (rest : IsSwept begun (first ∷ done) (polled_roots events) (after numbers (after_poll gate first) events)) (root : ℕ) → (first ≡ root) ⊎ (stands_in root (polled_roots events) ≡ true)
+        which : (rest : IsSwept begun (first ∷ done) (polled_roots events) (after limits (after_poll gate first) events)) (root : ℕ) → (first ≡ root) ⊎ (stands_in root (polled_roots events) ≡ true)
             → stands_in root rest.all_done ≡ true
         which rest root (inl same) = rest.before root (in_head first root done same)
         which rest root (inr is) = rest.these root is
     swept_all (event ∷ events) begun done gate so_far distinct new of_sweep allowed =
-        swept_all events begun done (step numbers gate event) (sweeping_like begun done gate (step numbers gate event) (like_after numbers gate event of_sweep.0 refl) so_far)
+        swept_all events begun done (step limits gate event) (sweeping_like begun done gate (step limits gate event) (like_after limits gate event of_sweep.0 refl) so_far)
         distinct new of_sweep.1 allowed.1
 
     -- from the first poll on
-    swept : (first : ℕ) (events : List (Event M E)) (gate : Gate M E) → Kept shows numbers gate → IsSweep shows numbers gate (Poll first ∷ events)
-        → SweepLeavesRoom numbers (after numbers gate (Poll first ∷ events))
+    swept : (first : ℕ) (events : List (Event M E)) (gate : Gate M E) → Kept shows limits gate → IsSweep shows limits gate (Poll first ∷ events)
+        → SweepLeavesRoom limits (after limits gate (Poll first ∷ events))
     swept first events gate kept sweep =
         let all = swept_all events gate (first ∷ []) (after_poll gate first) (sweeping_first gate first sweep.anew sweep.allowed.0) sweep.each_once.1 later sweep.nothing_else.1 sweep.allowed.1 in
-        room shows numbers next kept_next next.held (λ root is. all.sweeping.old_are_held root is (polled_once all root (in_cons first root (polled_roots events) (sweep.every_old_root root (all.sweeping.were_old root is)))))
+        room shows limits next kept_next next.held (λ root is. all.sweeping.old_are_held root is (polled_once all root (in_cons first root (polled_roots events) (sweep.every_old_root root (all.sweeping.were_old root is)))))
         (omega (arith, kept_next.counted.sweep.held, all.sweeping.count, all.sweeping.out))
       where
         next : Gate M E
-        next = after numbers gate (Poll first ∷ events)
+        next = after limits gate (Poll first ∷ events)
 
-        kept_next : Kept shows numbers next
-        kept_next = kept_after shows numbers (Poll first ∷ events) gate kept sweep.allowed
+        kept_next : Kept shows limits next
+        kept_next = kept_after shows limits (Poll first ∷ events) gate kept sweep.allowed
 
         later : (root : ℕ) → stands_in root (polled_roots events) ≡ true → stands_in root (first ∷ []) ≡ false
         later root is = neither (first == root) (λ same. true≢false (sym is ∙ ap (λ k. stands_in k (polled_roots events)) (sym (eqb-true first root same)) ∙ sweep.each_once.0))
@@ -197,27 +197,27 @@ module _ {M E : Type 0} where
         polled_once all root (inr is) = all.these root is
 
     -- an event that polls nothing leaves the rest of a sweep one
-    rest_of_sweep : (event : Event M E) (events : List (Event M E)) (gate : Gate M E) → poll_of event ≡ [] → IsSweep shows numbers gate (event ∷ events)
-        → IsSweep shows numbers (step numbers gate event) events
+    rest_of_sweep : (event : Event M E) (events : List (Event M E)) (gate : Gate M E) → poll_of event ≡ [] → IsSweep shows limits gate (event ∷ events)
+        → IsSweep shows limits (step limits gate event) events
     rest_of_sweep (Poll root) events gate none sweep = absurd (poll_is_some none)
       where
         poll_is_some : ¬ (root ∷ [] ≡ [])
         poll_is_some is = cc
     rest_of_sweep event events gate none sweep =
-        let like = like_after numbers gate event sweep.nothing_else.0 refl in
+        let like = like_after limits gate event sweep.nothing_else.0 refl in
         record {
           allowed = sweep.allowed.1;
           nothing_else = sweep.nothing_else.1;
           each_once = sweep.each_once;
           every_old_root = λ root is. sweep.every_old_root root (subst (λ standing. is_old standing ≡ true) (like.standings root) is);
-          anew = begins_like gate (step numbers gate event) like (polled_roots events) sweep.anew;
+          anew = begins_like gate (step limits gate event) like (polled_roots events) sweep.anew;
         }
 
-    pub sweep_leaves_room : (events : List (Event M E)) (gate : Gate M E) → Kept shows numbers gate → IsSweep shows numbers gate events → SweepLeavesRoom numbers (after numbers gate events)
-    sweep_leaves_room [] gate kept sweep = room shows numbers gate kept [] sweep.every_old_root (omega arith)
+    pub sweep_leaves_room : (events : List (Event M E)) (gate : Gate M E) → Kept shows limits gate → IsSweep shows limits gate events → SweepLeavesRoom limits (after limits gate events)
+    sweep_leaves_room [] gate kept sweep = room shows limits gate kept [] sweep.every_old_root (omega arith)
     sweep_leaves_room (Poll first ∷ events) gate kept sweep = swept first events gate kept sweep
     sweep_leaves_room (event ∷ events) gate kept sweep =
-        sweep_leaves_room events (step numbers gate event) (kept_step shows numbers gate event kept sweep.allowed.0) (rest_of_sweep event events gate refl sweep)
+        sweep_leaves_room events (step limits gate event) (kept_step shows limits gate event kept sweep.allowed.0) (rest_of_sweep event events gate refl sweep)
 
 -- a poll of an old root frees it, or finds it held
 module _ {M E : Type 0} where

@@ -9,14 +9,14 @@ use Rattle.dt_gate.specs.declared.gate.Root.{Root}
 use Rattle.dt_gate.specs.declared.gate.Seat.{Seat}
 use Rattle.dt_gate.specs.declared.gate.Stage.TheVariants.{Out, In, Note}
 use Rattle.dt_gate.specs.declared.gate.Standing.TheVariants.{Now, Old}
-use Rattle.dt_gate.specs.Gate.{Numbers, limits, nothing_laid, blank_root, fresh}
+use Rattle.dt_gate.specs.Gate.{Limits, limits_of, nothing_laid, blank_root, fresh}
 use Rattle.dt_gate.specs.Sound.{IsSound}
 use Rattle.dt_gate.specs.Runs.{after, AreAllowed}
 use Rattle.dt_gate.specs.WrongMachines.{anything, laying}
 
 -- two readers, sixteen pages and a limit of two entries
-abbrev pub two : Numbers
-two = limits 2 16 2
+abbrev pub two : Limits
+two = limits_of 2 16 2
 
 -- all words are zero
 abbrev pub zeros : List ℕ

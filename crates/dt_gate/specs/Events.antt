@@ -19,7 +19,7 @@ use Rattle.dt_gate.specs.declared.gate.Stage.{Stage}
 use Rattle.dt_gate.specs.declared.gate.Stage.TheVariants.{Out, Near, In, Note, Spent}
 use Rattle.dt_gate.specs.declared.gate.Standing.{Standing}
 use Rattle.dt_gate.specs.declared.gate.Standing.TheVariants.{Free, Now, Old}
-use Rattle.dt_gate.specs.Gate.{Numbers, pages_of, nothing_laid, IsLive, IsOld, root_at, seat_at, spent}
+use Rattle.dt_gate.specs.Gate.{Limits, pages_of, nothing_laid, IsLive, IsOld, root_at, seat_at, spent}
 
 -- the seat is a reader's, and was not given back
 abbrev pub IsReader : Stage → Type 0
@@ -79,9 +79,9 @@ module _ {M E : Type 0} where
 
   -- a look: below the limit the reader comes near;
   -- else it has seen the history, and keeps the version and the count
-  abbrev pub after_look : Numbers → Gate M E → Seat M E → Seat M E
-  after_look numbers gate seat =
-      if nat_lt gate.entries numbers.entries
+  abbrev pub after_look : Limits → Gate M E → Seat M E → Seat M E
+  after_look limits gate seat =
+      if nat_lt gate.entries limits.entries
       then record seat { stage = Near }
       else record seat { history = gate.history; worn = seat.worn ++ (length gate.history, gate.entries) ∷ [] }
 
@@ -110,7 +110,7 @@ module _ {M E : Type 0} where
 
   -- a publish may come: the root is free, and laid with no exit, the next version,
   -- and a top page that shows the history with the entry and reaches only pages that there are
-  pub record MayPublish (shows : Reading → List E → Type 0) (numbers : Numbers) (gate : Gate M E)
+  pub record MayPublish (shows : Reading → List E → Type 0) (limits : Limits) (gate : Gate M E)
       (root : ℕ) (entry : E) : Type 0 where
     pub is_free : (root_at gate root).standing ≡ Free
     pub no_exit : (root_at gate root).laid.exits ≡ Some 0
@@ -118,7 +118,7 @@ module _ {M E : Type 0} where
     pub top : ℕ
     pub top_is_laid : (root_at gate root).laid.top ≡ Some top
     pub top_shows : shows (reading (pages_of gate.words) top) (gate.history ++ entry ∷ [])
-    pub in_bounds : (page : ℕ) → Reaches (pages_of gate.words) top page → page < numbers.pages
+    pub in_bounds : (page : ℕ) → Reaches (pages_of gate.words) top page → page < limits.pages
 
   -- a publish: the current root is old, with the entries that were made into it;
   -- this root is current, with none, and what was laid in it is no longer kept as laid
@@ -184,41 +184,41 @@ module _ {M E : Type 0} where
   -- where each event is allowed
   -- (changed: `IsAllowedBare` lets a seat enter without a look;
   -- `IsAllowedAnywhere` lets a page be filled that a live root reaches)
-  abbrev pub IsAllowed : (Reading → List E → Type 0) → Numbers → Gate M E → Event M E → Type 0
-  IsAllowed shows numbers gate (Look seat) = (seat_at gate seat).stage ≡ Out
-  IsAllowed shows numbers gate (Enter seat) = (seat_at gate seat).stage ≡ Near
-  IsAllowed shows numbers gate (Read seat word) = IsFrozenWord word (seat_at gate seat).stage
-  IsAllowed shows numbers gate (Leave seat) = IsInside (seat_at gate seat).stage
-  IsAllowed shows numbers gate (Fill page at word) = (page ≢ 0) × (page < numbers.pages) × (at < 512)
+  abbrev pub IsAllowed : (Reading → List E → Type 0) → Limits → Gate M E → Event M E → Type 0
+  IsAllowed shows limits gate (Look seat) = (seat_at gate seat).stage ≡ Out
+  IsAllowed shows limits gate (Enter seat) = (seat_at gate seat).stage ≡ Near
+  IsAllowed shows limits gate (Read seat word) = IsFrozenWord word (seat_at gate seat).stage
+  IsAllowed shows limits gate (Leave seat) = IsInside (seat_at gate seat).stage
+  IsAllowed shows limits gate (Fill page at word) = (page ≢ 0) × (page < limits.pages) × (at < 512)
       × ((root : ℕ) → IsLive (root_at gate root).standing
       → ¬ Reaches (pages_of gate.words) (root_at gate root).top page)
-  IsAllowed shows numbers gate (Lay root word value) = (root_at gate root).standing ≡ Free
-  IsAllowed shows numbers gate (Publish root entry) = MayPublish shows numbers gate root entry
-  IsAllowed shows numbers gate (Poll root) = IsOld (root_at gate root).standing
-  IsAllowed shows numbers gate SeatOut = gate.out < numbers.readers
-  IsAllowed shows numbers gate (NoteOut giver) = IsHolder gate giver
-  IsAllowed shows numbers gate (SeatBack seat) = (seat_at gate seat).stage ≡ Out
-  IsAllowed shows numbers gate (NoteBack note taker) =
+  IsAllowed shows limits gate (Lay root word value) = (root_at gate root).standing ≡ Free
+  IsAllowed shows limits gate (Publish root entry) = MayPublish shows limits gate root entry
+  IsAllowed shows limits gate (Poll root) = IsOld (root_at gate root).standing
+  IsAllowed shows limits gate SeatOut = gate.out < limits.readers
+  IsAllowed shows limits gate (NoteOut giver) = IsHolder gate giver
+  IsAllowed shows limits gate (SeatBack seat) = (seat_at gate seat).stage ≡ Out
+  IsAllowed shows limits gate (NoteBack note taker) =
       ((seat_at gate note).stage ≡ Note) × IsHolder gate taker
-  IsAllowed shows numbers gate (Tell taker) = IsHolder gate taker
+  IsAllowed shows limits gate (Tell taker) = IsHolder gate taker
 
   -- what each event does
-  abbrev pub step : Numbers → Gate M E → Event M E → Gate M E
-  step numbers gate (Look seat) = with_seat gate seat (after_look numbers gate (seat_at gate seat))
-  step numbers gate (Enter seat) =
+  abbrev pub step : Limits → Gate M E → Event M E → Gate M E
+  step limits gate (Look seat) = with_seat gate seat (after_look limits gate (seat_at gate seat))
+  step limits gate (Enter seat) =
       with_seat (record gate { entries = gate.entries + 1 }) seat (after_enter gate (seat_at gate seat))
-  step numbers gate (Read seat word) = gate
-  step numbers gate (Leave seat) = after_leave gate seat (seat_at gate seat).stage
-  step numbers gate (Fill page at word) = record gate { words = slice_set gate.words (512 * page + at) word }
-  step numbers gate (Lay root word value) = with_root gate root (with_word (root_at gate root) word value)
-  step numbers gate (Publish root entry) = after_publish gate root entry
-  step numbers gate (Poll root) = after_poll gate root
-  step numbers gate SeatOut =
+  step limits gate (Read seat word) = gate
+  step limits gate (Leave seat) = after_leave gate seat (seat_at gate seat).stage
+  step limits gate (Fill page at word) = record gate { words = slice_set gate.words (512 * page + at) word }
+  step limits gate (Lay root word value) = with_root gate root (with_word (root_at gate root) word value)
+  step limits gate (Publish root entry) = after_publish gate root entry
+  step limits gate (Poll root) = after_poll gate root
+  step limits gate SeatOut =
       record gate { seats = gate.seats ++ given Out gate.history ∷ []; out = gate.out + 1 }
-  step numbers gate (NoteOut giver) =
+  step limits gate (NoteOut giver) =
       record gate { seats = gate.seats ++ given Note (history_of gate giver) ∷ [] }
-  step numbers gate (SeatBack seat) =
+  step limits gate (SeatBack seat) =
       with_seat (taken_from (joined_by gate Author (seat_at gate seat).history) (seat_at gate seat)) seat spent
-  step numbers gate (NoteBack note taker) =
+  step limits gate (NoteBack note taker) =
       with_seat (joined_by gate taker (seat_at gate note).history) note spent
-  step numbers gate (Tell taker) = gate
+  step limits gate (Tell taker) = gate

@@ -9,7 +9,7 @@ use Rattle.dt_gate.specs.declared.event.RecordWord.TheVariants as laid
 use Rattle.dt_gate.specs.declared.gate.Gate.{Gate}
 use Rattle.dt_gate.specs.declared.gate.Stage.TheVariants.{Out, Spent}
 use Rattle.dt_gate.specs.declared.gate.Standing.TheVariants.{Free, Now, Old}
-use Rattle.dt_gate.specs.Gate.{Numbers, limits, root_at, seat_at, fresh}
+use Rattle.dt_gate.specs.Gate.{Limits, limits_of, root_at, seat_at, fresh}
 use Rattle.dt_gate.specs.Readers.{word_now}
 use Rattle.dt_gate.specs.Events.{IsAllowed, longer}
 use Rattle.dt_gate.specs.Runs.{after, AreAllowed}
@@ -34,8 +34,8 @@ pub record OldRootIsFreed : Type 0 where
   pub history : (after small start polled_free).history ≡ 7 ∷ []
 
 -- three readers, and a limit of two entries
-abbrev pub three_readers : Numbers
-three_readers = limits 3 16 2
+abbrev pub three_readers : Limits
+three_readers = limits_of 3 16 2
 
 abbrev pub begun : Gate ℕ ℕ
 begun = fresh three_readers
@@ -135,8 +135,8 @@ the_longer_history = refl
 
 -- ---- two roots are held in one sweep
 
-abbrev two_readers : Numbers
-two_readers = limits 2 16 2
+abbrev two_readers : Limits
+two_readers = limits_of 2 16 2
 
 -- each of two readers is inside a root of its own, both roots are old, and both are polled
 abbrev two_inside : List (Event ℕ ℕ)
@@ -151,8 +151,8 @@ as_many_as_readers = refl
 
 -- ---- worn by another reader
 
-abbrev one_entry : Numbers
-one_entry = limits 2 16 1
+abbrev one_entry : Limits
+one_entry = limits_of 2 16 1
 
 -- a reader uses up the one entry of version 1, and another looks for the first time
 abbrev worn_at_first : List (Event ℕ ℕ)

@@ -9,16 +9,16 @@ use Rattle.dt_gate.specs.declared.gate.Stage.TheVariants.{Spent}
 use Rattle.dt_gate.specs.declared.gate.Standing.{Standing}
 use Rattle.dt_gate.specs.declared.gate.Standing.TheVariants.{Free, Now, Old}
 
--- the numbers that are given once: how many readers may be out, how many pages there are,
--- and the limit of entries
-pub record Numbers : Type 0 where
+-- the limits, which are given once: how many readers may be out, how many pages there are,
+-- and at how many entries a look is worn
+pub record Limits : Type 0 where
   pub readers : ℕ
   pub pages : ℕ
   pub entries : ℕ
 
--- the numbers, given one by one
-abbrev pub limits : ℕ → ℕ → ℕ → Numbers
-limits readers pages entries = record { readers = readers; pages = pages; entries = entries }
+-- the limits, given one by one
+abbrev pub limits_of : ℕ → ℕ → ℕ → Limits
+limits_of readers pages entries = record { readers = readers; pages = pages; entries = entries }
 
 -- the words of all pages lie one page behind the other
 abbrev pub pages_of : List ℕ → Pages
@@ -61,12 +61,12 @@ module _ {M E : Type 0} where
   seat_at gate seat = slice_index_or gate.seats seat spent
 
   -- at first all words are zero, root 0 is current, no entry was published and no seat is out
-  abbrev pub fresh : Numbers → Gate M E
-  fresh numbers = record {
+  abbrev pub fresh : Limits → Gate M E
+  fresh limits = record {
     current = 0;
     entries = 0;
-    roots = record blank_root { standing = Now } ∷ replicate (numbers.readers + 1) blank_root;
-    words = replicate (512 * numbers.pages) 0;
+    roots = record blank_root { standing = Now } ∷ replicate (limits.readers + 1) blank_root;
+    words = replicate (512 * limits.pages) 0;
     history = [];
     out = 0;
     held = [];

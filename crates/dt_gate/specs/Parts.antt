@@ -9,7 +9,7 @@ use Rattle.dt_gate.specs.declared.gate.Seat.{Seat}
 use Rattle.dt_gate.specs.declared.gate.Stage.{Stage}
 use Rattle.dt_gate.specs.declared.gate.Stage.TheVariants.{Out, Near, In}
 use Rattle.dt_gate.specs.declared.gate.Standing.TheVariants.{Free, Now, Old}
-use Rattle.dt_gate.specs.Gate.{limits, pages_of, blank_root, IsLive, root_at, seat_at, spent, fresh}
+use Rattle.dt_gate.specs.Gate.{limits_of, pages_of, blank_root, IsLive, root_at, seat_at, spent, fresh}
 use Rattle.dt_gate.specs.Events.{history_of, longer}
 use Rattle.dt_gate.specs.Counts.{inside, near, readers, times_in, times_taken, times_entered, inside_unswept}
 use Rattle.dt_gate.specs.Readers.{frozen_word, word_now, LookDecides}
@@ -20,7 +20,7 @@ use Rattle.dt_gate.specs.Busy.{two, zeros, busy, old_root, current_root, laid_ro
 
 -- ---- the parts of a gate
 
-the_fresh_gate : fresh {M = ℕ} {E = ℕ} (limits 1 0 5) ≡ record {
+the_fresh_gate : fresh {M = ℕ} {E = ℕ} (limits_of 1 0 5) ≡ record {
   current = 0;
   entries = 0;
   roots = record blank_root { standing = Now } ∷ blank_root ∷ blank_root ∷ [];
@@ -125,20 +125,20 @@ a_worn_look_that_is_not_kept decides =
 
 -- ---- runs
 
-the_least_numbers : InRange (limits 1 16 1)
-the_least_numbers = record { some_reader = omega arith; readers = omega arith; some_pages = omega arith; pages = omega arith; some_entry = omega arith; entries = omega arith }
+the_least_limits : InRange (limits_of 1 16 1)
+the_least_limits = record { some_reader = omega arith; readers = omega arith; some_pages = omega arith; pages = omega arith; some_entry = omega arith; entries = omega arith }
 
-the_greatest_numbers : InRange (limits 256 65536 (2 ^ 31))
-the_greatest_numbers = record { some_reader = omega arith; readers = omega arith; some_pages = omega arith; pages = omega arith; some_entry = omega arith; entries = omega arith }
+the_greatest_limits : InRange (limits_of 256 65536 (2 ^ 31))
+the_greatest_limits = record { some_reader = omega arith; readers = omega arith; some_pages = omega arith; pages = omega arith; some_entry = omega arith; entries = omega arith }
 
-too_few : (¬ InRange (limits 0 16 1)) × (¬ InRange (limits 1 15 1)) × (¬ InRange (limits 1 16 0))
+too_few : (¬ InRange (limits_of 0 16 1)) × (¬ InRange (limits_of 1 15 1)) × (¬ InRange (limits_of 1 16 0))
 too_few = (
   (λ range. let is : 1 ≤ 0 = range.some_reader in absurd (omega (arith, is))),
   (λ range. let is : 16 ≤ 15 = range.some_pages in absurd (omega (arith, is))),
   (λ range. let is : 1 ≤ 0 = range.some_entry in absurd (omega (arith, is))),
 )
 
-too_many : (¬ InRange (limits 257 16 1)) × (¬ InRange (limits 1 65537 1)) × (¬ InRange (limits 1 16 2147483649))
+too_many : (¬ InRange (limits_of 257 16 1)) × (¬ InRange (limits_of 1 65537 1)) × (¬ InRange (limits_of 1 16 2147483649))
 too_many = (
   (λ range. let is : 257 ≤ 256 = range.readers in absurd (omega (arith, is))),
   (λ range. let is : 65537 ≤ 65536 = range.pages in absurd (omega (arith, is))),

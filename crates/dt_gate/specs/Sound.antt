@@ -10,7 +10,7 @@ use Rattle.dt_gate.specs.declared.gate.Root.{Root}
 use Rattle.dt_gate.specs.declared.gate.Seat.{Seat}
 use Rattle.dt_gate.specs.declared.gate.Stage.TheVariants.{In}
 use Rattle.dt_gate.specs.declared.gate.Standing.TheVariants.{Free, Now, Old}
-use Rattle.dt_gate.specs.Gate.{Numbers, pages_of, IsLive, root_at, seat_at}
+use Rattle.dt_gate.specs.Gate.{Limits, pages_of, IsLive, root_at, seat_at}
 use Rattle.dt_gate.specs.Counts.{inside, near, readers, inside_unswept, times_taken, times_entered}
 
 -- the words that are kept as laid are the words of their root
@@ -37,10 +37,10 @@ module _ {M E : Type 0} where
     pub none_inside_a_free_root : (root : ℕ) → (root_at gate root).standing ≡ Free → inside gate root ≡ 0
 
   -- entries and readers stay within what was given
-  pub record CountsAreBounded (numbers : Numbers) (gate : Gate M E) : Type 0 where
-    pub entries : gate.entries + near gate ≤ numbers.entries + numbers.readers
+  pub record CountsAreBounded (limits : Limits) (gate : Gate M E) : Type 0 where
+    pub entries : gate.entries + near gate ≤ limits.entries + limits.readers
     pub readers_are_out : readers gate ≡ gate.out
-    pub readers_out : gate.out ≤ numbers.readers
+    pub readers_out : gate.out ≤ limits.readers
 
   -- the words of a root that a reader is inside are the words as it found them
   pub record WordsAreFrozen (gate : Gate M E) (root : ℕ) (frozen : Frozen) : Type 0 where
@@ -59,7 +59,7 @@ module _ {M E : Type 0} where
     pub version_is_seen : frozen.version ≤ length seat.history
 
   -- pages and versions
-  pub record PagesShowVersions (shows : Reading → List E → Type 0) (numbers : Numbers)
+  pub record PagesShowVersions (shows : Reading → List E → Type 0) (limits : Limits)
       (gate : Gate M E) : Type 0 where
     pub page_zero_is_empty : (at : ℕ) → at < 512 → pages_of gate.words 0 at ≡ 0
     pub current_version : (root_at gate gate.current).version ≡ length gate.history
@@ -70,16 +70,16 @@ module _ {M E : Type 0} where
         → shows (reading (pages_of gate.words) (root_at gate root).top)
         (take (root_at gate root).version gate.history)
     pub reach_is_in_bounds : (root : ℕ) → IsLive (root_at gate root).standing
-        → (page : ℕ) → Reaches (pages_of gate.words) (root_at gate root).top page → page < numbers.pages
+        → (page : ℕ) → Reaches (pages_of gate.words) (root_at gate root).top page → page < limits.pages
     pub laid_words_stand : (root : ℕ) → LaidWordsStand (root_at gate root)
     pub inside_is_safe : (seat root : ℕ) (frozen : Frozen) → (seat_at gate seat).stage ≡ In root frozen
         → InsideIsSafe shows gate (seat_at gate seat) root frozen
 
   -- in a sweep, the roots found held and the seats inside old roots not found held are together at most its count,
   -- which is at most the readers; so a sweep leaves no more roots than readers were out
-  pub record SweepIsBounded (numbers : Numbers) (gate : Gate M E) : Type 0 where
+  pub record SweepIsBounded (limits : Limits) (gate : Gate M E) : Type 0 where
     pub held : length gate.held + inside_unswept gate ≤ gate.sweep
-    pub count : gate.sweep ≤ numbers.readers
+    pub count : gate.sweep ≤ limits.readers
 
   -- every history that anyone has seen is a prefix of the author's, and what a taker joined are prefixes of its own
   pub record HistoriesArePrefixes (gate : Gate M E) : Type 0 where
@@ -116,10 +116,10 @@ module _ {M E : Type 0} where
     pub worn_taken : WornWasTaken gate
 
   -- the gate is sound
-  pub record IsSound (shows : Reading → List E → Type 0) (numbers : Numbers) (gate : Gate M E) : Type 0 where
+  pub record IsSound (shows : Reading → List E → Type 0) (limits : Limits) (gate : Gate M E) : Type 0 where
     pub one_root_is_current : OneRootIsCurrent gate
     pub entries_are_accounted_for : EntriesAreAccountedFor gate
-    pub counts_are_bounded : CountsAreBounded numbers gate
-    pub pages_show_versions : PagesShowVersions shows numbers gate
-    pub sweep_is_bounded : SweepIsBounded numbers gate
+    pub counts_are_bounded : CountsAreBounded limits gate
+    pub pages_show_versions : PagesShowVersions shows limits gate
+    pub sweep_is_bounded : SweepIsBounded limits gate
     pub histories_and_counts : HistoriesAndCounts gate

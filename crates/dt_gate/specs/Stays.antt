@@ -7,7 +7,7 @@ use Rattle.dt_gate.specs.declared.event.Holder.{Holder}
 use Rattle.dt_gate.specs.declared.event.Holder.TheVariants.{Reader}
 use Rattle.dt_gate.specs.declared.gate.Gate.{Gate}
 use Rattle.dt_gate.specs.declared.gate.Root.{Root}
-use Rattle.dt_gate.specs.Gate.{Numbers, pages_of, root_at, seat_at}
+use Rattle.dt_gate.specs.Gate.{Limits, pages_of, root_at, seat_at}
 use Rattle.dt_gate.specs.Events.{IsAllowed, step}
 use Rattle.dt_gate.specs.Runs.{IsReached}
 
@@ -131,9 +131,9 @@ module _ {M E : Type 0} where
   Leaves old new (NoteBack note taker) = NoteBackLeaves old new note taker
   Leaves old new (Tell taker) = new ≡ old
 
-module _ (M : Type 0) {E : Type 0} (shows : Reading → List E → Type 0) (numbers : Numbers) where
+module _ (M : Type 0) {E : Type 0} (shows : Reading → List E → Type 0) (limits : Limits) where
   -- each event that is allowed leaves the rest as it was
   abbrev pub EventsLeaveTheRest : Type 0
-  EventsLeaveTheRest = (gate : Gate M E) (event : Event M E) → IsReached shows numbers gate
-      → IsAllowed shows numbers gate event
-      → Leaves gate (step numbers gate event) event
+  EventsLeaveTheRest = (gate : Gate M E) (event : Event M E) → IsReached shows limits gate
+      → IsAllowed shows limits gate event
+      → Leaves gate (step limits gate event) event

@@ -6,7 +6,7 @@ use Rattle.dt_gate.specs.declared.event.Event.{Event}
 use Rattle.dt_gate.specs.declared.event.Event.TheVariants.{Publish, Poll, SeatOut, SeatBack}
 use Rattle.dt_gate.specs.declared.gate.Gate.{Gate}
 use Rattle.dt_gate.specs.declared.gate.Standing.TheVariants.{Free, Old}
-use Rattle.dt_gate.specs.Gate.{Numbers, root_at, is_old}
+use Rattle.dt_gate.specs.Gate.{Limits, root_at, is_old}
 use Rattle.dt_gate.specs.Events.{is_new_sweep, step}
 use Rattle.dt_gate.specs.Runs.{after, AreAllowed, IsReached}
 
@@ -43,9 +43,9 @@ module _ {M E : Type 0} where
   old_roots gate = count_by (λ root. is_old root.standing) gate.roots
 
   -- a sweep polls each old root once, and begins anew with its first poll; readers may step between the polls
-  pub record IsSweep (shows : Reading → List E → Type 0) (numbers : Numbers) (gate : Gate M E)
+  pub record IsSweep (shows : Reading → List E → Type 0) (limits : Limits) (gate : Gate M E)
       (events : List (Event M E)) : Type 0 where
-    pub allowed : AreAllowed shows numbers gate events
+    pub allowed : AreAllowed shows limits gate events
     pub nothing_else : AllByRecursion IsOfSweep events
     pub each_once : AreDistinct (polled_roots events)
     pub every_old_root : (root : ℕ) → is_old (root_at gate root).standing ≡ true
@@ -53,9 +53,9 @@ module _ {M E : Type 0} where
     pub anew : BeginsAnew gate (polled_roots events)
 
   -- the roots that are still old are no more than the readers out, and some root is free
-  pub record SweepLeavesRoom (numbers : Numbers) (gate : Gate M E) : Type 0 where
+  pub record SweepLeavesRoom (limits : Limits) (gate : Gate M E) : Type 0 where
     pub still_old : old_roots gate ≤ gate.out
-    pub some_free : (root : ℕ) × (root < numbers.readers + 2) × ((root_at gate root).standing ≡ Free)
+    pub some_free : (root : ℕ) × (root < limits.readers + 2) × ((root_at gate root).standing ≡ Free)
 
   -- what a poll of an old root leads to
   pub record PollDecides (gate : Gate M E) (root entries : ℕ) (next : Gate M E) : Type 0 where
@@ -65,13 +65,13 @@ module _ {M E : Type 0} where
     pub is_kept : next.polls ≡ gate.polls ++ (root, (root_at gate root).exits) ∷ []
 
 -- a poll frees an old root exactly where its exits are its final entries; else the root stays old, and is found held
-abbrev pub PollsDecide : (M E : Type 0) → Numbers → Type 0
-PollsDecide M E numbers = (gate : Gate M E) (root entries : ℕ) → (root_at gate root).standing ≡ Old entries
-    → PollDecides gate root entries (step numbers gate (Poll root))
+abbrev pub PollsDecide : (M E : Type 0) → Limits → Type 0
+PollsDecide M E limits = (gate : Gate M E) (root entries : ℕ) → (root_at gate root).standing ≡ Old entries
+    → PollDecides gate root entries (step limits gate (Poll root))
 
-module _ (M : Type 0) {E : Type 0} (shows : Reading → List E → Type 0) (numbers : Numbers) where
+module _ (M : Type 0) {E : Type 0} (shows : Reading → List E → Type 0) (limits : Limits) where
   -- every sweep leaves a free root, whatever readers do between its polls
   abbrev pub SweepsLeaveRoom : Type 0
-  SweepsLeaveRoom = (gate : Gate M E) (events : List (Event M E)) → IsReached shows numbers gate
-      → IsSweep shows numbers gate events
-      → SweepLeavesRoom numbers (after numbers gate events)
+  SweepsLeaveRoom = (gate : Gate M E) (events : List (Event M E)) → IsReached shows limits gate
+      → IsSweep shows limits gate events
+      → SweepLeavesRoom limits (after limits gate events)

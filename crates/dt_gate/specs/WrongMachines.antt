@@ -8,14 +8,14 @@ use Rattle.dt_gate.specs.declared.gate.Gate.{Gate}
 use Rattle.dt_gate.specs.declared.gate.Stage.TheVariants.{Out, Near}
 use Rattle.dt_gate.specs.declared.gate.Standing.{Standing}
 use Rattle.dt_gate.specs.declared.gate.Standing.TheVariants.{Free, Now, Old}
-use Rattle.dt_gate.specs.Gate.{Numbers, limits, root_at, seat_at, fresh}
+use Rattle.dt_gate.specs.Gate.{Limits, limits_of, root_at, seat_at, fresh}
 use Rattle.dt_gate.specs.Events.{with_root, after_publish, IsAllowed, step}
 use Rattle.dt_gate.specs.Sound.{IsSound}
 use Rattle.dt_gate.specs.Runs.{after, AreAllowed}
 
 -- the runs are of one reader, sixteen pages and a limit of one entry; entries of the history are numbers
-abbrev pub small : Numbers
-small = limits 1 16 1
+abbrev pub small : Limits
+small = limits_of 1 16 1
 
 abbrev pub start : Gate ℕ ℕ
 start = fresh small

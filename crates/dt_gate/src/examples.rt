@@ -1,6 +1,6 @@
 //! Runs, worked out.
 
-ghost use Rattle.dt_gate.specs.Gate.{limits};
+ghost use Rattle.dt_gate.specs.Gate.{limits_of};
 ghost use Rattle.dt_gate.specs.Runs.{EveryRunIsSound};
 ghost use Rattle.dt_gate.specs.Busy.{BusyIsReached};
 ghost use Rattle.dt_gate.specs.Examples.{counted, OldRootIsFreed, PastTheLimit, PagesAreRead, NoteTellsHistory, SeatIsTakenBack};
@@ -20,7 +20,7 @@ impl Meaning for Counting {
 
 /// The law at this meaning.
 pub fn every_counting_run_is_sound(events: &[Event<Counting>])
-    ensures { EveryRunIsSound counted (limits 1 16 1) events.now }
+    ensures { EveryRunIsSound counted (limits_of 1 16 1) events.now }
 {
     every_run_is_sound(1, 16, 1, events)
 }
