@@ -1,5 +1,5 @@
 -- The counts over all seats that soundness speaks of: in each, every seat has one summand.
-use Rattle.std.specs.Prelude.{ℕ, ◌+◌, Bool, ◌&&◌, not, ◌==◌, if◌then◌else◌, List, count_by, sum_by}
+use Rattle.std.specs.Prelude.{ℕ, ◌+◌, Bool, ◌&&◌, not, ◌==◌, if◌then◌else◌, List, length, count_by, sum_by}
 use Rattle.std.specs.List.{list_any}
 use Rattle.dt_gate.specs.declared.gate.Gate.{Gate}
 use Rattle.dt_gate.specs.declared.gate.Stage.{Stage}
@@ -72,3 +72,7 @@ module _ {M E : Type 0} where
   abbrev pub times_entered : Gate M E → ℕ → ℕ
   times_entered gate version =
       sum_by (λ seat. times_in version seat.entered) gate.seats + times_taken gate version
+
+  -- how often readers entered in all: those of all seats, and those that are back
+  abbrev pub entries_made : Gate M E → ℕ
+  entries_made gate = sum_by (λ seat. length seat.entered) gate.seats + sum_by (λ entered. length entered) gate.taken

@@ -2,13 +2,15 @@
 use Rattle.std.specs.Prelude.{◌≡◌, ℕ, ◌+◌, ◌*◌, ◌<◌, ◌≤◌, List, length}
 use Rattle.dt_pages.specs.Reading.{Reading}
 use Rattle.dt_gate.specs.declared.event.Event.{Event}
-use Rattle.dt_gate.specs.declared.event.Event.TheVariants.{Tell}
+use Rattle.dt_gate.specs.declared.event.Event.TheVariants.{Look, Tell}
 use Rattle.dt_gate.specs.declared.event.Holder.{Holder}
 use Rattle.dt_gate.specs.declared.event.Holder.TheVariants.{Author, Reader}
 use Rattle.dt_gate.specs.declared.gate.Gate.{Gate}
+use Rattle.dt_gate.specs.declared.gate.Stage.TheVariants.{Near}
 use Rattle.dt_gate.specs.declared.gate.Standing.TheVariants.{Old}
 use Rattle.dt_gate.specs.Gate.{Limits, fresh, IsLive, root_at, seat_at}
 use Rattle.dt_gate.specs.Events.{history_of, IsAllowed, step}
+use Rattle.dt_gate.specs.Counts.{entries_made}
 use Rattle.dt_gate.specs.Sound.{BothArePrefixes, WornWasTaken, IsSound}
 use Rattle.dt_gate.specs.Runs.{IsReached}
 
@@ -64,3 +66,9 @@ module _ (M : Type 0) {E : Type 0} (shows : Reading → List E → Type 0) (limi
   abbrev pub TellTeaches : Type 0
   TellTeaches = (gate : Gate M E) (taker : Holder) → IsReached shows limits gate → IsAllowed shows limits gate (Tell taker)
       → BothArePrefixes (joined_of gate taker) (history_of gate taker)
+
+  -- while all readers together entered less often than the limit, every look lets its reader come near
+  abbrev pub NoneIsWornBelowTheLimit : Type 0
+  NoneIsWornBelowTheLimit = (gate : Gate M E) (seat : ℕ) → IsReached shows limits gate
+      → entries_made gate < limits.entries → IsAllowed shows limits gate (Look seat)
+      → (seat_at (step limits gate (Look seat)) seat).stage ≡ Near

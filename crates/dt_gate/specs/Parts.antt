@@ -11,7 +11,7 @@ use Rattle.dt_gate.specs.declared.gate.Stage.TheVariants.{Out, Near, In}
 use Rattle.dt_gate.specs.declared.gate.Standing.TheVariants.{Free, Now, Old}
 use Rattle.dt_gate.specs.Gate.{limits_of, pages_of, blank_root, IsLive, root_at, seat_at, spent, fresh}
 use Rattle.dt_gate.specs.Events.{history_of, longer}
-use Rattle.dt_gate.specs.Counts.{inside, near, readers, times_in, times_taken, times_entered, inside_unswept}
+use Rattle.dt_gate.specs.Counts.{inside, near, readers, times_in, times_taken, times_entered, entries_made, inside_unswept}
 use Rattle.dt_gate.specs.Readers.{frozen_word, word_now, LookDecides}
 use Rattle.dt_gate.specs.Runs.{InRange, after, AreAllowed, IsReached}
 use Rattle.dt_gate.specs.Laws.{EntriesAreBounded, HasItsSizes, joined_of}
@@ -88,6 +88,10 @@ how_often_it_was_entered = refl
 
 how_often_it_was_taken : times_taken (record busy { taken = (0 ∷ 1 ∷ []) ∷ (0 ∷ 0 ∷ []) ∷ [] }) 0 ≡ 3
 how_often_it_was_taken = refl
+
+-- by all seats, whichever versions, and by seats that are back
+all_that_entered : entries_made (record busy { taken = (0 ∷ 1 ∷ []) ∷ (0 ∷ []) ∷ [] }) ≡ 6
+all_that_entered = refl
 
 -- the root that was found held counts among those, and else the seat inside it counts
 none_inside_unswept_roots : inside_unswept busy ≡ 0

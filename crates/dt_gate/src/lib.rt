@@ -22,7 +22,8 @@ pub use gate::{Frozen, Gate, Laid, Root, Seat, Stage, Standing};
 pub use laws::{
     a_poll_decides, a_sweep_leaves_room, a_tell_teaches, entries_stay_bounded,
     events_leave_the_rest, every_reached_gate_is_sound, every_run_is_sound,
-    nothing_changes_under_a_reader, sizes_stay, worn_looks_were_taken,
+    none_is_worn_below_the_limit, nothing_changes_under_a_reader, sizes_stay,
+    worn_looks_were_taken,
 };
 pub use meaning::Meaning;
 pub use wrong::{
