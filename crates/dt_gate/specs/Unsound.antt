@@ -9,8 +9,8 @@ use Rattle.dt_gate.specs.declared.gate.Seat.{Seat}
 use Rattle.dt_gate.specs.declared.gate.Stage.TheVariants.{Near, In, Spent}
 use Rattle.dt_gate.specs.declared.gate.Standing.{Standing}
 use Rattle.dt_gate.specs.declared.gate.Standing.TheVariants.{Now, Old}
-use Rattle.dt_gate.specs.Gate.{nothing_laid, blank_root}
-use Rattle.dt_gate.specs.Sound.{OneRootIsCurrent, EntriesAreAccountedFor, CountsAreBounded, InsideIsSafe, PagesShowVersions, SweepIsBounded, HistoriesArePrefixes, EntriesAreEntered, WornWasEntered, WornWasTaken}
+use Rattle.dt_gate.specs.Gate.{nothing_laid, blank_root, fresh}
+use Rattle.dt_gate.specs.Sound.{OneRootIsCurrent, EntriesAreAccountedFor, CountsAreBounded, InsideIsSafe, PagesShowVersions, SweepIsBounded, HistoriesArePrefixes, EntriesAreEntered, WornWasEntered, WornWasTaken, IsSound}
 use Rattle.dt_gate.specs.WrongMachines.{anything}
 use Rattle.dt_gate.specs.Busy.{two, zeros, busy, old_root, current_root, laid_root, inside_seat, out_seat, note_of}
 use Rattle.dt_gate.specs.Examples.{counted}
@@ -246,3 +246,47 @@ taken_worn_by_more_than_entered part =
 
 worn_by_more_than_taken : ¬ WornWasTaken (record busy { out = 0; worn = ((0, 2) ∷ []) ∷ []; taken = (0 ∷ []) ∷ [] })
 worn_by_more_than_taken part = let is : 2 ≤ 1 = part refl 0 [] (omega arith) 0 (0, 0) (omega arith) in absurd (omega (arith, is))
+
+-- ---- the whole: each breaks one part alone
+
+not_sound_with_another_current_root : ¬ IsSound anything two (with_third (record blank_root { version = 5; standing = Now }))
+not_sound_with_another_current_root sound =
+    let is : ◌≡◌ {A = ℕ} 2 1 = sound.one_root_is_current.no_other 2 refl in absurd (omega (arith, is))
+
+not_sound_with_an_entry_unaccounted_for : ¬ IsSound anything two (with_current (record current_root { exits = 0 }))
+not_sound_with_an_entry_unaccounted_for sound =
+    let is : ◌≡◌ {A = ℕ} 0 1 = sound.entries_are_accounted_for.of_the_current_root in absurd (omega (arith, is))
+
+-- three readers of two, of which the third has done nothing
+not_sound_with_a_third_reader : ¬ IsSound anything two (record busy { seats = inside_seat ∷ out_seat ∷ record out_seat { entered = [] } ∷ []; out = 3 })
+not_sound_with_a_third_reader sound = let is : 3 ≤ 2 = sound.counts_are_bounded.readers_out in absurd (omega (arith, is))
+
+not_sound_with_pages_of_another_history : ¬ IsSound counted two busy
+not_sound_with_pages_of_another_history sound = the_current_root_shows_another_history sound.pages_show_versions
+
+not_sound_with_a_longer_sweep : ¬ IsSound anything two (record busy { sweep = 3 })
+not_sound_with_a_longer_sweep sound = a_count_past_the_readers sound.sweep_is_bounded
+
+not_sound_with_a_lost_history : ¬ IsSound anything two (record busy { joined = (7 ∷ 8 ∷ [], []) })
+not_sound_with_a_lost_history sound = an_author_that_lost_what_it_had sound.histories_and_counts.prefixes
+
+not_sound_with_a_version_entered_before_it_was_published : ¬ IsSound anything two (record busy { taken = (2 ∷ []) ∷ [] })
+not_sound_with_a_version_entered_before_it_was_published sound =
+    let is : 2 ≤ 1 = sound.histories_and_counts.entries.only_published 2 (omega arith) in absurd (omega (arith, is))
+
+not_sound_with_a_look_worn_before_its_version : ¬ IsSound anything two (with_worn ((2, 0) ∷ []))
+not_sound_with_a_look_worn_before_its_version sound = worn_before_it_was_published sound.histories_and_counts.worn
+
+-- no reader is out, and what was entered stands in a note
+not_sound_with_a_worn_look_that_was_not_taken : ¬ IsSound anything two (record (fresh two) {
+  entries = 1;
+  roots = record current_root { version = 0 } ∷ blank_root ∷ blank_root ∷ blank_root ∷ [];
+  worn = ((0, 1) ∷ []) ∷ [];
+  seats = record (note_of []) { entered = 0 ∷ [] } ∷ [];
+})
+not_sound_with_a_worn_look_that_was_not_taken sound =
+    let is : 1 ≤ 0 = sound.histories_and_counts.worn_taken refl 0 [] (omega arith) 0 (0, 0) (omega arith) in absurd (omega (arith, is))
+
+-- so the law that every gate that is reached is sound says something: not every gate is
+not_every_gate_is_sound : ¬ ((gate : Gate ℕ ℕ) → IsSound anything two gate)
+not_every_gate_is_sound all = not_sound_with_a_longer_sweep (all (record busy { sweep = 3 }))
