@@ -1,7 +1,7 @@
 -- Sweeps and polls of the busy gate, and of gates that differ from it in one thing.
 use Rattle.std.specs.Prelude.{◌≡◌, ℕ, zero, suc, ◌<◌, ◌≤◌, ◌==◌, Bool, true, false, [], ◌∷◌, length, refl}
 use Rattle.std.proofs.Common.{ap, arith}
-use Rattle.dt_gate.specs.declared.event.Event.TheVariants.{Look, Enter, Leave, Poll, SeatOut, SeatBack}
+use Rattle.dt_gate.specs.declared.event.Event.TheVariants.{Look, Enter, Leave, Publish, Poll, SeatOut, SeatBack}
 use Rattle.dt_gate.specs.declared.gate.Gate.{Gate}
 use Rattle.dt_gate.specs.declared.gate.Standing.{Standing}
 use Rattle.dt_gate.specs.declared.gate.Standing.TheVariants.{Free, Now, Old}
@@ -47,6 +47,9 @@ a_sweep_that_polls_the_current_root sweep = sweep.allowed.1.0
 
 a_sweep_that_goes_on : ¬ IsSweep anything two (record busy { held = 2 ∷ [] }) (Poll 0 ∷ [])
 a_sweep_that_goes_on sweep = let is : ◌≡◌ {A = Bool} false true = sweep.anew in cc
+
+a_sweep_with_a_publish : ¬ IsSweep anything two busy (Poll 0 ∷ Publish 2 8 ∷ [])
+a_sweep_with_a_publish sweep = sweep.nothing_else.1.0
 
 a_sweep_with_a_seat_back : ¬ IsSweep anything two busy (Poll 0 ∷ SeatBack 1 ∷ [])
 a_sweep_with_a_seat_back sweep = sweep.nothing_else.1.0
