@@ -16,11 +16,12 @@ mod wrong;
 pub use event::{Event, Holder, ReadWord, RecordWord};
 pub use examples::{
     Counting, a_busy_gate_is_reached, a_note_tells_the_history, a_seat_is_taken_back,
-    an_old_root_is_freed, pages_are_filled_and_read, three_readers_pass_the_limit,
+    an_old_root_is_freed, every_counting_run_is_sound, pages_are_filled_and_read,
+    three_readers_pass_the_limit,
 };
 pub use gate::{Frozen, Gate, Laid, Root, Seat, Stage, Standing};
 pub use laws::{
-    a_poll_decides, a_sweep_leaves_room, a_tell_teaches, entries_stay_bounded,
+    a_look_decides, a_poll_decides, a_sweep_leaves_room, a_tell_teaches, entries_stay_bounded,
     events_leave_the_rest, every_reached_gate_is_sound, every_run_is_sound,
     none_is_worn_below_the_limit, nothing_changes_under_a_reader, sizes_stay,
     worn_looks_were_taken,
