@@ -17,7 +17,7 @@ use Rattle.dt_gate.specs.declared.gate.Standing.TheVariants.{Free, Now, Old}
 use Rattle.dt_gate.specs.Gate.{blank_root, pages_of, IsLive, root_at}
 use Rattle.dt_gate.specs.Events.{IsAllowed}
 use Rattle.dt_gate.specs.WrongMachines.{anything}
-use Rattle.dt_gate.specs.Busy.{two, busy, old_root, current_root, laid_root, inside_seat, out_seat, note_of}
+use Rattle.dt_gate.specs.Busy.{something, two, busy, old_root, current_root, laid_root, inside_seat, out_seat, note_of}
 use Rattle.dt_gate.specs.Examples.{counted}
 
 -- the event is allowed in the gate
@@ -197,6 +197,18 @@ a_laid_root_may_be_published = record {
   top = 15;
   top_is_laid = refl;
   top_shows = tt;
+  in_bounds = in_bounds;
+}
+
+-- its pages show the history with the entry, and need not show the one before
+the_first_entry_may_be_published : IsAllowed something two (record (laid_with (Some 0) (Some 1) (Some 15)) { history = [] }) (Publish 2 8)
+the_first_entry_may_be_published = record {
+  is_free = refl;
+  no_exit = refl;
+  next_version = refl;
+  top = 15;
+  top_is_laid = refl;
+  top_shows = omega arith;
   in_bounds = in_bounds;
 }
 

@@ -1,5 +1,6 @@
 -- A gate in the midst of its work, and the run that leads to it. The examples of events and of soundness start from it.
-use Rattle.std.specs.Prelude.{◌≡◌, ℕ, ◌*◌, List, [], ◌∷◌, ◌++◌, replicate, Some, None}
+use Rattle.std.specs.Prelude.{◌≡◌, ◌≢◌, ℕ, ◌*◌, List, [], ◌∷◌, ◌++◌, length, replicate, Some, None}
+use Rattle.dt_pages.specs.Reading.{Reading}
 use Rattle.dt_gate.specs.declared.event.Event.{Event}
 use Rattle.dt_gate.specs.declared.event.Event.TheVariants.{Look, Enter, Leave, Lay, Publish, Poll, SeatOut, NoteOut}
 use Rattle.dt_gate.specs.declared.event.Holder.TheVariants.{Author, Reader}
@@ -13,6 +14,10 @@ use Rattle.dt_gate.specs.Gate.{Limits, limits_of, nothing_laid, blank_root, fres
 use Rattle.dt_gate.specs.Sound.{IsSound}
 use Rattle.dt_gate.specs.Runs.{after, AreAllowed}
 use Rattle.dt_gate.specs.WrongMachines.{anything, laying}
+
+-- a meaning by which every reading shows every list but the empty one
+abbrev pub something : Reading → List ℕ → Type 0
+something reading entries = length entries ≢ 0
 
 -- two readers, sixteen pages and a limit of two entries
 abbrev pub two : Limits

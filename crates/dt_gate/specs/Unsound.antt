@@ -1,7 +1,6 @@
 -- Gates that differ from the busy one in one thing, and break one sentence of soundness by the least that breaks it.
-use Rattle.std.specs.Prelude.{◌≡◌, ◌≢◌, ℕ, ◌<◌, ◌≤◌, List, [], ◌∷◌, ◌++◌, length, slice_set, Some, refl}
+use Rattle.std.specs.Prelude.{◌≡◌, ℕ, ◌<◌, ◌≤◌, List, [], ◌∷◌, ◌++◌, slice_set, Some, refl}
 use Rattle.std.proofs.Common.{arith, inl}
-use Rattle.dt_pages.specs.Reading.{Reading}
 use Rattle.dt_gate.specs.declared.gate.Frozen.{Frozen}
 use Rattle.dt_gate.specs.declared.gate.Gate.{Gate}
 use Rattle.dt_gate.specs.declared.gate.Root.{Root}
@@ -12,7 +11,7 @@ use Rattle.dt_gate.specs.declared.gate.Standing.TheVariants.{Now, Old}
 use Rattle.dt_gate.specs.Gate.{nothing_laid, blank_root, fresh}
 use Rattle.dt_gate.specs.Sound.{OneRootIsCurrent, EntriesAreAccountedFor, CountsAreBounded, InsideIsSafe, PagesShowVersions, SweepIsBounded, HistoriesArePrefixes, EntriesAreEntered, WornWasEntered, WornWasTaken, IsSound}
 use Rattle.dt_gate.specs.WrongMachines.{anything}
-use Rattle.dt_gate.specs.Busy.{two, zeros, busy, old_root, current_root, laid_root, inside_seat, out_seat, note_of}
+use Rattle.dt_gate.specs.Busy.{something, two, zeros, busy, old_root, current_root, laid_root, inside_seat, out_seat, note_of}
 use Rattle.dt_gate.specs.Examples.{counted}
 
 -- the busy gate with its current root changed, and with its old root changed
@@ -102,10 +101,6 @@ two_old_roots_of_one_version part = let is : ◌≡◌ {A = ℕ} 0 2 = part.vers
 
 the_current_root_shows_another_history : ¬ PagesShowVersions counted two busy
 the_current_root_shows_another_history part = let is : ◌≡◌ {A = ℕ} 0 1 = part.each_shows_its_version 1 tt in absurd (omega (arith, is))
-
--- a meaning by which every reading shows every list but the empty one
-abbrev something : Reading → List ℕ → Type 0
-something reading entries = length entries ≢ 0
 
 an_old_root_shows_another_history : ¬ PagesShowVersions something two (with_words zeros)
 an_old_root_shows_another_history part = part.each_shows_its_version 0 tt refl
