@@ -12,7 +12,7 @@ use Rattle.dt_gate.specs.declared.gate.Standing.TheVariants.{Free, Now, Old}
 use Rattle.dt_gate.specs.Gate.{Limits, IsLive, root_at, fresh}
 use Rattle.dt_gate.specs.Events.{IsAllowed, step}
 use Rattle.dt_gate.specs.Runs.{after, AreAllowed, IsReached}
-use Rattle.dt_gate.specs.Counts.{times_in, entries_made}
+use Rattle.dt_gate.specs.Counts.{times_in, times_entered, entries_made}
 use Rattle.dt_gate.specs.Laws.{EntriesAreBounded, HasItsSizes}
 use Rattle.dt_gate.specs.Stays.{Leaves}
 use Rattle.dt_gate.proofs.Kept.{Kept}
@@ -37,18 +37,17 @@ module _ {M E : Type 0} (shows : Reading → List E → Type 0) (limits : Limits
       exits root Now is live = omega (arith, current, kept.counted.accounted.of_the_current_root, ap (λ k. (root_at gate k).exits) (kept.counted.one.no_other root is))
       exits root (Old entries) is live = omega (arith, kept.counted.old_bounded root entries is, kept.counted.accounted.of_an_old_root root entries is)
 
-  -- the entries of the current root are among all that were made
-  pub entries_were_made : (gate : Gate M E) → Kept shows limits gate → gate.entries ≤ entries_made gate
-  entries_were_made gate kept =
+  -- the entries of a version are among all that were made, and so are those of the current root
+  pub entered_were_made : (gate : Gate M E) (version : ℕ) → times_entered gate version ≤ entries_made gate
+  entered_were_made gate version =
       omega (
         arith,
-        kept.entered.entries.of_the_current_root,
         sum_le (λ (seat : Seat M E). times_in version seat.entered) (λ (seat : Seat M E). length seat.entered) (λ seat. count_by-le-length (λ entered. entered == version) seat.entered) gate.seats,
         sum_le (times_in version) (λ entered. length entered) (λ entered. count_by-le-length (λ other. other == version) entered) gate.taken,
       )
-    where
-      version : ℕ
-      version = (root_at gate gate.current).version
+
+  pub entries_were_made : (gate : Gate M E) → Kept shows limits gate → gate.entries ≤ entries_made gate
+  entries_were_made gate kept = omega (arith, kept.entered.entries.of_the_current_root, entered_were_made gate (root_at gate gate.current).version)
 
   -- no event changes how many page words there are
   words_stay : (gate : Gate M E) (event : Event M E) → Kept shows limits gate → IsAllowed shows limits gate event → length (step limits gate event).words ≡ length gate.words

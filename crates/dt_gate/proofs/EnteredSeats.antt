@@ -37,10 +37,6 @@ module _ {M E : Type 0} where
     pub worn : All (WasEntered gate) seat.worn
     pub not_a_reader : ¬ IsReader seat.stage → seat.entered ≡ []
 
-  pub seat_more : (gate next : Gate M E) → length gate.history ≤ length next.history → ((version : ℕ) → times_entered gate version ≤ times_entered next version)
-      → (seat : Seat M E) → SeatIsEntered gate seat → SeatIsEntered next seat
-  seat_more gate next longer more seat is = record { worn = worn_more gate next longer more seat.worn is.worn; not_a_reader = is.not_a_reader }
-
   pub seat_is_entered : (gate : Gate M E) → Entered gate → (seat : ℕ) → SeatIsEntered gate (seat_at gate seat)
   seat_is_entered gate kept seat = record { worn = kept.worn.of_a_seat seat; not_a_reader = kept.not_a_reader seat }
 

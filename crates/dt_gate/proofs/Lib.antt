@@ -20,3 +20,4 @@ pub mod Room
 pub mod BetweenPolls
 pub mod Sweeping
 pub mod Bounds
+pub mod WornLooks

@@ -1,5 +1,5 @@
 -- What holds of every gate that a run can reach.
-use Rattle.std.specs.Prelude.{◌≡◌, ℕ, ◌+◌, ◌*◌, ◌<◌, ◌≤◌, List, length}
+use Rattle.std.specs.Prelude.{◌≡◌, ℕ, ◌+◌, ◌*◌, ◌<◌, ◌≤◌, List, length, [], All}
 use Rattle.dt_pages.specs.Reading.{Reading}
 use Rattle.dt_gate.specs.declared.event.Event.{Event}
 use Rattle.dt_gate.specs.declared.event.Event.TheVariants.{Look, Tell}
@@ -13,6 +13,10 @@ use Rattle.dt_gate.specs.Events.{history_of, IsAllowed, step}
 use Rattle.dt_gate.specs.Counts.{entries_made}
 use Rattle.dt_gate.specs.Sound.{BothArePrefixes, WornWasTaken, IsSound}
 use Rattle.dt_gate.specs.Runs.{IsReached}
+
+-- a worn look found the limit reached
+abbrev pub FoundTheLimit : Limits → ℕ × ℕ → Type 0
+FoundTheLimit limits look = limits.entries ≤ look.1
 
 module _ {M E : Type 0} where
   -- the entries of the current root, the final entries of each old one, and the exits of both
@@ -29,6 +33,16 @@ module _ {M E : Type 0} where
     pub roots : length gate.roots ≡ limits.readers + 2
     pub words : length gate.words ≡ 512 * limits.pages
     pub current : gate.current < limits.readers + 2
+
+  -- so did each worn look of a seat, and each of those that were taken back
+  pub record WornFoundTheLimit (limits : Limits) (gate : Gate M E) : Type 0 where
+    pub of_a_seat : (seat : ℕ) → All (FoundTheLimit limits) (seat_at gate seat).worn
+    pub of_those_taken_back : All (All (FoundTheLimit limits)) gate.worn
+
+  -- no look of a seat was worn, and none of those that were taken back
+  pub record NoneWasWorn (gate : Gate M E) : Type 0 where
+    pub of_a_seat : (seat : ℕ) → (seat_at gate seat).worn ≡ []
+    pub of_those_taken_back : All (λ worn. worn ≡ []) gate.worn
 
   -- the two histories that a holder joined last
   abbrev pub joined_of : Gate M E → Holder → List E × List E
@@ -72,3 +86,11 @@ module _ (M : Type 0) {E : Type 0} (shows : Reading → List E → Type 0) (limi
   NoneIsWornBelowTheLimit = (gate : Gate M E) (seat : ℕ) → IsReached shows limits gate
       → entries_made gate < limits.entries → IsAllowed shows limits gate (Look seat)
       → (seat_at (step limits gate (Look seat)) seat).stage ≡ Near
+
+  -- and none was worn
+  abbrev pub NoneWasWornBelowTheLimit : Type 0
+  NoneWasWornBelowTheLimit = (gate : Gate M E) → IsReached shows limits gate → entries_made gate < limits.entries → NoneWasWorn gate
+
+  -- every look that was worn found the limit reached
+  abbrev pub WornLooksFoundTheLimit : Type 0
+  WornLooksFoundTheLimit = (gate : Gate M E) → IsReached shows limits gate → WornFoundTheLimit limits gate

@@ -14,7 +14,7 @@ use Rattle.dt_gate.specs.Events.{history_of, longer}
 use Rattle.dt_gate.specs.Counts.{inside, near, readers, times_in, times_taken, times_entered, entries_made, inside_unswept}
 use Rattle.dt_gate.specs.Readers.{frozen_word, word_now, LookDecides}
 use Rattle.dt_gate.specs.Runs.{InRange, after, AreAllowed, IsReached}
-use Rattle.dt_gate.specs.Laws.{EntriesAreBounded, HasItsSizes, joined_of}
+use Rattle.dt_gate.specs.Laws.{EntriesAreBounded, HasItsSizes, FoundTheLimit, WornFoundTheLimit, NoneWasWorn, joined_of}
 use Rattle.dt_gate.specs.WrongMachines.{anything}
 use Rattle.dt_gate.specs.Busy.{two, zeros, busy, old_root, current_root, laid_root, inside_seat, out_seat, note_of}
 
@@ -184,6 +184,24 @@ entries_of_an_old_root_past_the_bound bounded = let is : 5 ≤ 4 = bounded.of_an
 
 exits_past_the_bound : ¬ EntriesAreBounded two (record busy { roots = record old_root { exits = 5 } ∷ [] })
 exits_past_the_bound bounded = let is : 5 ≤ 4 = bounded.exits 0 tt in absurd (omega (arith, is))
+
+-- a look of a seat, or of one that was taken back, that found less than the limit
+a_look_worn_below_the_limit : ¬ WornFoundTheLimit two (record busy { seats = record out_seat { worn = (0, 2) ∷ (1, 1) ∷ [] } ∷ [] })
+a_look_worn_below_the_limit found_it = let is : 2 ≤ 1 = found_it.of_a_seat 0 1 (0, 0) (omega arith) in absurd (omega (arith, is))
+
+a_taken_look_worn_below_the_limit : ¬ WornFoundTheLimit two (record busy { worn = [] ∷ ((1, 1) ∷ []) ∷ [] })
+a_taken_look_worn_below_the_limit found_it =
+    let is : 2 ≤ 1 = found_it.of_those_taken_back 1 [] (omega arith) 0 (0, 0) (omega arith) in absurd (omega (arith, is))
+
+a_look_at_the_limit_is_worn : FoundTheLimit two (0, 2)
+a_look_at_the_limit_is_worn = omega arith
+
+some_look_was_worn : (¬ NoneWasWorn (record busy { seats = record out_seat { worn = (0, 2) ∷ [] } ∷ [] }))
+    × (¬ NoneWasWorn (record busy { worn = [] ∷ ((0, 2) ∷ []) ∷ [] }))
+some_look_was_worn = (
+  (λ none. let is : ◌≡◌ {A = List (ℕ × ℕ)} ((0, 2) ∷ []) [] = none.of_a_seat 0 in cc),
+  (λ none. let is : ◌≡◌ {A = List (ℕ × ℕ)} ((0, 2) ∷ []) [] = none.of_those_taken_back 1 [] (omega arith) in cc),
+)
 
 histories_joined : (joined_of (record busy { joined = ([], 7 ∷ []) }) Author ≡ ([], 7 ∷ []))
     × (joined_of (record busy { seats = record out_seat { joined = (7 ∷ [], []) } ∷ [] }) (Reader 0) ≡ (7 ∷ [], []))

@@ -5,7 +5,7 @@ ghost use Rattle.dt_gate.specs.Runs.{InRange, EveryRunIsSound};
 ghost use Rattle.dt_gate.specs.Stays.{EventsLeaveTheRest};
 ghost use Rattle.dt_gate.specs.Readers.{ReadsAreFrozen, NoFillUnderAReader, NoLayUnderAReader, LooksDecide};
 ghost use Rattle.dt_gate.specs.Sweeps.{PollsDecide, SweepsLeaveRoom};
-ghost use Rattle.dt_gate.specs.Laws.{ReachedIsSound, FreshIsReached, RunsGoOn, EntriesStayBounded, SizesStay, TellTeaches, WornLooksWereTaken, NoneIsWornBelowTheLimit};
+ghost use Rattle.dt_gate.specs.Laws.{ReachedIsSound, FreshIsReached, RunsGoOn, EntriesStayBounded, SizesStay, TellTeaches, WornLooksWereTaken, NoneIsWornBelowTheLimit, NoneWasWornBelowTheLimit, WornLooksFoundTheLimit};
 
 use crate::event::Event;
 use crate::meaning::Meaning;
@@ -47,11 +47,17 @@ pub fn worn_looks_were_taken<M: Meaning>(readers: u16, pages: u32, entries: u64)
     ensures { WornLooksWereTaken M M.shows (limits_of readers pages entries) }
 {}
 
-/// While all readers together entered less often than the limit, no look is worn.
+/// While all readers together entered less often than the limit, no look is worn, and none was.
 pub fn none_is_worn_below_the_limit<M: Meaning>(readers: u16, pages: u32, entries: u64)
     requires limits { InRange (limits_of readers pages entries) }
     requires empty { M.shows blank [] }
-    ensures { NoneIsWornBelowTheLimit M M.shows (limits_of readers pages entries) }
+    ensures now { NoneIsWornBelowTheLimit M M.shows (limits_of readers pages entries) }
+    ensures before { NoneWasWornBelowTheLimit M M.shows (limits_of readers pages entries) }
+{}
+
+/// Every look that was worn found the limit reached.
+pub fn worn_looks_found_the_limit<M: Meaning>(readers: u16, pages: u32, entries: u64)
+    ensures { WornLooksFoundTheLimit M M.shows (limits_of readers pages entries) }
 {}
 
 /// Each event leaves everything as it was but for what it is made for.

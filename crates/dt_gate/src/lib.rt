@@ -24,7 +24,7 @@ pub use laws::{
     a_look_decides, a_poll_decides, a_sweep_leaves_room, a_tell_teaches, entries_stay_bounded,
     events_leave_the_rest, every_reached_gate_is_sound, every_run_is_sound,
     none_is_worn_below_the_limit, nothing_changes_under_a_reader, sizes_stay,
-    worn_looks_were_taken,
+    worn_looks_found_the_limit, worn_looks_were_taken,
 };
 pub use meaning::Meaning;
 pub use wrong::{
