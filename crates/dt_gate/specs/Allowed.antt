@@ -111,10 +111,11 @@ not_reached (suc (suc (suc root))) live met = absurd live
 the_last_page_may_be_filled : May bare (Fill 15 511 9)
 the_last_page_may_be_filled = (omega arith, omega arith, omega arith, not_reached)
 
--- page 1 has no word that is 0, and is the top page of the one live root
+-- page 1 has no word that is 0
 abbrev ones : List ℕ
 ones = replicate 512 0 ++ replicate 512 1
 
+-- the busy gate with these words, and one live root, whose top page is page 1
 abbrev full : Gate ℕ ℕ
 full = record busy { words = ones; roots = blank_root ∷ record current_root { top = 1 } ∷ [] }
 

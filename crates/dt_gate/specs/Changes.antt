@@ -25,6 +25,7 @@ Refuses event next = ¬ Leaves busy next event
 
 -- ---- what lies flat in the gate
 
+-- the busy gate with one entry more
 abbrev one_entry_more : Gate ℕ ℕ
 one_entry_more = record busy { entries = 2 }
 
@@ -55,6 +56,7 @@ an_enter_raises_the_entries leaves = let raised : ◌≡◌ {A = ℕ} 1 2 = ap (
 a_publish_ends_the_entries : Refuses (Publish 1 8) busy
 a_publish_ends_the_entries leaves = let ended : ◌≡◌ {A = ℕ} 1 0 = ap (λ (gate : Gate ℕ ℕ). gate.entries) leaves.rest in absurd (omega (arith, ended))
 
+-- with one reader less out
 abbrev one_reader_less : Gate ℕ ℕ
 one_reader_less = record busy { out = 1 }
 
@@ -75,6 +77,7 @@ only_a_seat_back_lessens_the_readers = (
   (λ leaves. not_the_readers _ (omega arith) leaves.rest),
 )
 
+-- with one entry more in the author's history
 abbrev longer_history : Gate ℕ ℕ
 longer_history = record busy { history = 7 ∷ 8 ∷ [] }
 

@@ -37,6 +37,7 @@ pub record OldRootIsFreed : Type 0 where
 abbrev pub three_readers : Limits
 three_readers = limits_of 3 16 2
 
+-- the fresh gate of these
 abbrev pub begun : Gate ℕ ℕ
 begun = fresh three_readers
 
@@ -135,6 +136,7 @@ the_longer_history = refl
 
 -- ---- two roots are held in one sweep
 
+-- two readers, and a limit of two entries
 abbrev two_readers : Limits
 two_readers = limits_of 2 16 2
 
@@ -151,6 +153,7 @@ as_many_as_readers = refl
 
 -- ---- worn by another reader
 
+-- two readers, and a limit of one entry
 abbrev one_entry : Limits
 one_entry = limits_of 2 16 1
 

@@ -44,6 +44,7 @@ is_old Free = false
 is_old Now = false
 is_old (Old entries) = true
 
+-- the same as a condition
 abbrev pub IsOld : Standing → Type 0
 IsOld standing = T (is_old standing)
 

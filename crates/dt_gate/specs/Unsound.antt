@@ -14,10 +14,11 @@ use Rattle.dt_gate.specs.WrongMachines.{anything}
 use Rattle.dt_gate.specs.Busy.{something, two, zeros, busy, old_root, current_root, laid_root, inside_seat, out_seat, note_of}
 use Rattle.dt_gate.specs.Examples.{counted}
 
--- the busy gate with its current root changed, and with its old root changed
+-- the busy gate with its current root changed
 abbrev with_current : Root → Gate ℕ ℕ
 with_current root = record busy { roots = old_root ∷ root ∷ laid_root ∷ blank_root ∷ [] }
 
+-- the busy gate with its old root changed
 abbrev with_old : Root → Gate ℕ ℕ
 with_old root = record busy { roots = root ∷ current_root ∷ laid_root ∷ blank_root ∷ [] }
 

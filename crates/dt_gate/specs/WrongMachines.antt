@@ -17,6 +17,7 @@ use Rattle.dt_gate.specs.Runs.{after, AreAllowed}
 abbrev pub small : Limits
 small = limits_of 1 16 1
 
+-- the fresh gate of these
 abbrev pub start : Gate ℕ ℕ
 start = fresh small
 
@@ -37,6 +38,7 @@ abbrev pub publish_that_frees : Gate ℕ ℕ → ℕ → ℕ → Gate ℕ ℕ
 publish_that_frees gate root entry =
     with_root (after_publish gate root entry) gate.current (record (root_at gate gate.current) { standing = Free })
 
+-- a run after which it breaks soundness: the reader is inside a free root
 pub record FreesAtOnce : Type 0 where
   pub before : AreAllowed anything small start one_inside_and_laid
   pub publish : IsAllowed anything small (after small start one_inside_and_laid) (Publish 1 7)
@@ -51,6 +53,7 @@ publish_by_store loaded gate root entry =
 abbrev pub near_and_laid : List (Event ℕ ℕ)
 near_and_laid = SeatOut ∷ Look 0 ∷ laying 0
 
+-- a run after which it breaks soundness: the entry between is not among those of the old root
 pub record LoadsThenStores : Type 0 where
   pub before : AreAllowed anything small start near_and_laid
   pub loaded : (after small start near_and_laid).entries ≡ 0
@@ -69,6 +72,7 @@ poll_that_drains gate root Now = gate
 abbrev pub one_inside_an_old_root : List (Event ℕ ℕ)
 one_inside_an_old_root = one_inside_and_laid ++ Publish 1 7 ∷ []
 
+-- a run after which it breaks soundness: the reader inside has not left
 pub record DrainsExits : Type 0 where
   pub before : AreAllowed anything small start one_inside_an_old_root
   pub poll : IsAllowed anything small (after small start one_inside_an_old_root) (Poll 0)
@@ -81,6 +85,7 @@ abbrev pub IsAllowedBare : Gate ℕ ℕ → Event ℕ ℕ → Type 0
 IsAllowedBare gate (Enter seat) = ((seat_at gate seat).stage ≡ Near) ⊎ ((seat_at gate seat).stage ≡ Out)
 IsAllowedBare gate event = IsAllowed anything small gate event
 
+-- each of these events is allowed so where it stands
 abbrev pub AreAllowedBare : Gate ℕ ℕ → List (Event ℕ ℕ) → Type 0
 AreAllowedBare gate [] = Unit {0}
 AreAllowedBare gate (event ∷ events) =
@@ -90,6 +95,7 @@ AreAllowedBare gate (event ∷ events) =
 abbrev pub three_entries : List (Event ℕ ℕ)
 three_entries = SeatOut ∷ Enter 0 ∷ Leave 0 ∷ Enter 0 ∷ Leave 0 ∷ Enter 0 ∷ []
 
+-- after them soundness is broken: three entries are more than the limit and the reader
 pub record EntersWithoutALook : Type 0 where
   pub before : AreAllowedBare start three_entries
   pub breaks : ¬ IsSound anything small (after small start three_entries)
@@ -102,6 +108,7 @@ IsAllowedAnywhere page at = (page ≢ 0) × (page < small.pages) × (at < 512)
 abbrev pub inside_page_one : List (Event ℕ ℕ)
 inside_page_one = laying 1 ++ Publish 1 7 ∷ SeatOut ∷ Look 0 ∷ Enter 0 ∷ []
 
+-- a run after which it breaks soundness: the reader finds another word
 pub record FillsUnderAReader : Type 0 where
   pub before : AreAllowed anything small start inside_page_one
   pub fill : IsAllowedAnywhere 1 0

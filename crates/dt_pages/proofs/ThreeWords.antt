@@ -4,12 +4,15 @@ use Rattle.std.specs.FinMap.{empty, get, entries, find, entries-from_sorted, get
 use Rattle.std.specs.Ordering.{nat_cmp}
 use Rattle.dt_pages.specs.Laws.{three_words, last_changed, one_gone}
 
+-- the three words
 abbrev pub three : List (ℕ × ℕ)
 three = (0, 1) ∷ (4096, 1) ∷ (16777216, 4294967298) ∷ []
 
+-- the last one changed
 abbrev pub changed : List (ℕ × ℕ)
 changed = (0, 1) ∷ (4096, 1) ∷ (16777216, 5) ∷ []
 
+-- the second one gone
 abbrev pub gone : List (ℕ × ℕ)
 gone = (0, 1) ∷ (16777216, 4294967298) ∷ []
 
