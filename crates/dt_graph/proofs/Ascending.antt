@@ -82,6 +82,9 @@ AscendingNumbers-placed new numbers ascending = numbers_from _ (placed_number ne
 pub AscendingNumbers-filter : (test : ℕ → Bool) (numbers : List ℕ) → AscendingNumbers numbers → AscendingNumbers (filter test numbers)
 AscendingNumbers-filter test numbers ascending = numbers_from _ (Ascends-filter nat_lt number_order test numbers (numbers_to numbers ascending))
 
+pub AscendingNumbers-cons : (first : ℕ) (numbers : List ℕ) → All (λ n. IsTrue (nat_lt first n)) numbers → AscendingNumbers numbers → AscendingNumbers (first ∷ numbers)
+AscendingNumbers-cons first numbers all ascending = numbers_from (first ∷ numbers) (Ascends-cons nat_lt number_order first numbers all (numbers_to numbers ascending))
+
 -- ---- links
 
 link_order : Transitive is_link_before

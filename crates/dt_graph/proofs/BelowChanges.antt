@@ -1,8 +1,8 @@
 -- What becomes of below when links change: with one link more, and where only one class's links to parents change.
-use Rattle.std.proofs.Common.{◌≡◌, ◌==◌, ◌≢◌, ℕ, Bool, true, false, ◌&&◌, ◌||◌, IsTrue, List, [], ◌∷◌, refl, sym, ap, subst, ◌∙◌, ◌⊎◌, inl, inr, ⊎_elim, eqb-true, eq-eqb}
-use Rattle.std.proofs.lemmas.Bool.{or_cases, or_left, or_right, false≢true, false_from_ne_true, cases_eq}
+use Rattle.std.proofs.Common.{◌≡◌, ◌==◌, ◌≢◌, ℕ, Bool, false, ◌&&◌, ◌||◌, IsTrue, List, [], ◌∷◌, refl, sym, subst, ◌∙◌, ◌⊎◌, inl, inr, ⊎_elim, eqb-true, eq-eqb}
+use Rattle.std.proofs.lemmas.Bool.{or_cases, or_left, or_right, false≢true, cases_eq}
 use Rattle.std.specs.List.{list_any}
-use Rattle.dt_graph.specs.Graph.{Link, Graph, has_number, has_link, place_link}
+use Rattle.dt_graph.specs.Graph.{Link, has_number, has_link, place_link}
 use Rattle.dt_graph.specs.Below.{Leads, is_below}
 use Rattle.dt_graph.specs.Parents.{parents_of}
 use Rattle.dt_graph.proofs.Walks.{IsBelow-from_test, is_below-from_steps, is_below_self, is_below_step, is_below_more}

@@ -1,5 +1,5 @@
 -- The live classes at or below a class, as an ascending list of all classes at or below it.
-use Rattle.std.proofs.Common.{◌≡◌, ℕ, ◌<◌, Bool, false, IsTrue, List, [], ◌∷◌, filter, sym, subst, ◌∙◌, All}
+use Rattle.std.proofs.Common.{◌≡◌, ℕ, ◌<◌, Bool, false, IsTrue, List, [], ◌∷◌, sym, subst, ◌∙◌, All}
 use Rattle.std.proofs.lemmas.Bool.{false≢true, false_from_ne_true}
 use Rattle.dt_graph.specs.Graph.{Graph, has_number, is_live}
 use Rattle.dt_graph.specs.Below.{Leads, is_below}

@@ -18,3 +18,6 @@ pub mod ClassBits
 pub mod Renewing
 pub mod FirstClass
 pub mod AncestryRows
+pub mod Effects
+pub mod ListsOfGraphs
+pub mod Needed

@@ -1,6 +1,6 @@
 -- A class as it was before a change of it: what the rows stand for, and that this undoes the change.
-use Rattle.std.proofs.Common.{◌≡◌, ◌==◌, ℕ, ◌<◌, Bool, true, false, cond, not, ◌&&◌, IsTrue, List, [], ◌∷◌, length, get_or, set, filter, eqb, refl, sym, ap, subst, ◌∙◌, arith, length-set, set-set, get_or-set_same, nat_lt}
-use Rattle.std.proofs.lemmas.Bool.{ltb-true, eqb-true, eq-eqb, lt-ltb, and_parts, or_cases}
+use Rattle.std.proofs.Common.{◌≡◌, ℕ, ◌<◌, Bool, true, false, cond, not, IsTrue, List, [], ◌∷◌, length, get_or, set, filter, eqb, refl, sym, ap, subst, ◌∙◌, arith, length-set, set-set, get_or-set_same}
+use Rattle.std.proofs.lemmas.Bool.{ltb-true, eqb-true, eq-eqb, lt-ltb}
 use Rattle.std.proofs.lemmas.Bool.Decides.{nat_tests}
 use Rattle.dt_graph.specs.Graph.{Link, Graph, has_number, is_live, is_link, is_link_before, AscendingLinks, place_number, place_link, place_links}
 use Rattle.dt_graph.specs.GraphRows.{graph_of, place_numbers, LawfulRows}

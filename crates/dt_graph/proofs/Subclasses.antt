@@ -1,8 +1,8 @@
 -- The lowest class that has a given one as a parent: the first that has it among the classes below it.
-use Rattle.std.proofs.Common.{◌≡◌, ◌==◌, ℕ, ◌≤◌, Bool, true, false, ◌&&◌, IsTrue, List, [], ◌∷◌, Option, Some, None, find, refl, sym, ap, subst, ◌∙◌, ⊎_elim, eqb-true, ltb-true, eq-eqb, nat_lt, arith}
-use Rattle.std.proofs.lemmas.Bool.{or_cases, or_left, or_right, and_parts, and_from, and_right, false≢true, cases_Bool, cond-true, cond-false}
+use Rattle.std.proofs.Common.{◌≡◌, ◌==◌, ℕ, ◌≤◌, Bool, false, ◌&&◌, IsTrue, List, [], ◌∷◌, Option, Some, None, find, refl, sym, ap, subst, ◌∙◌, ⊎_elim, eqb-true, ltb-true, eq-eqb, nat_lt, arith}
+use Rattle.std.proofs.lemmas.Bool.{or_cases, or_left, and_parts, and_from, and_right, false≢true, cases_Bool, cond-true, cond-false}
 use Rattle.std.specs.Option.{option_map}
-use Rattle.dt_graph.specs.Graph.{Link, has_number, is_link, has_link, is_link_before, AscendingLinks}
+use Rattle.dt_graph.specs.Graph.{Link, has_number, is_link, has_link, AscendingLinks}
 use Rattle.dt_graph.specs.Lawful.{AscendingNumbers}
 use Rattle.dt_graph.specs.GraphChange.{lowest_subclass}
 use Rattle.dt_graph.proofs.Restored.{LinkBelowAll, link_below_rest, links_tail}
@@ -66,7 +66,7 @@ link_after l (m ∷ links) after a b linked = ⊎_elim
     (λ later. link_after l links after.1 a b later)
     (or_cases (is_link a b m) (has_link links a b) linked)
 
-lowest_linked : (links : List Link) (class : ℕ) → AscendingLinks links → IsLowest (λ n. has_link links n class) (lowest_subclass links class)
+pub lowest_linked : (links : List Link) (class : ℕ) → AscendingLinks links → IsLowest (λ n. has_link links n class) (lowest_subclass links class)
 lowest_linked [] class ascending = λ n. refl
 lowest_linked (l ∷ links) class ascending = ⊎_elim
     (λ here.

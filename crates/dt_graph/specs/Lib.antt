@@ -11,3 +11,5 @@ pub mod Renewal
 pub mod GraphChange
 pub mod Restore
 pub mod Examples
+pub mod RefusalExamples
+pub mod Unlawful

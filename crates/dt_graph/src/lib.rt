@@ -12,6 +12,7 @@ mod class_set;
 mod graph_fault;
 mod law;
 mod limits;
+mod listed;
 mod no_memory;
 mod parents;
 mod renewal;
@@ -21,8 +22,12 @@ pub use below::{below_is_an_order, below_test_agrees};
 pub use class_graph::ClassGraph;
 pub use class_no::ClassNo;
 pub use graph_fault::GraphFault;
-pub use law::{changes_are_undone, changes_keep_law};
+pub use law::{
+    changes_are_undone, changes_keep_law, refusals_are_needed, what_changes_leave,
+    what_restoring_leaves,
+};
 pub use limits::{CLASSES, PARENTS};
+pub use listed::lists_agree;
 pub use no_memory::NoMemory;
 pub use steps::Steps;
 

@@ -1,8 +1,7 @@
-use Rattle.std.proofs.Common.{◌≡◌, ◌<◌, length, sym, ap, subst, ◌∙◌, arith}
-use Rattle.dt_graph.specs.Graph.{Graph, is_live}
+use Rattle.std.proofs.Common.{◌<◌, length, sym, ap, subst, ◌∙◌, arith}
+use Rattle.dt_graph.specs.Graph.{Graph}
 use Rattle.dt_graph.specs.Below.{is_below}
 use Rattle.dt_graph.specs.Lawful.{LawfulGraph}
-use Rattle.dt_graph.specs.Descendants.{descendants}
 use Rattle.dt_graph.specs.declared.limits.TheConstants.{CLASSES}
 use Rattle.dt_graph.proofs.DescendantLists.{no_descendants, descendants_shown}
 use Rattle.dt_graph.proofs.class_graph.ClassGraph.below_count.Goals as goal

@@ -1,6 +1,5 @@
-use Rattle.std.proofs.Common.{◌≡◌, ◌<◌, ◌∙◌, ℕ, List, IsTrue, find, sym, ap, subst, arith}
+use Rattle.std.proofs.Common.{◌<◌, ◌∙◌, ℕ, IsTrue, find, sym, ap, arith}
 use Rattle.dt_graph.specs.Graph.{Graph, has_number, has_link}
-use Rattle.dt_graph.specs.Lawful.{LawfulGraph}
 use Rattle.dt_graph.specs.GraphChange.{lowest_subclass}
 use Rattle.dt_graph.specs.declared.limits.TheConstants.{CLASSES}
 use Rattle.dt_graph.proofs.Walks.{is_below_self, is_below_step}
