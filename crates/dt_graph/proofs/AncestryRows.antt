@@ -13,12 +13,6 @@ pub record IsChangedTo (change : Bool → ℕ → Bool) (old new : List (List �
   pub count : length new ≡ length old
   pub each : (k n : ℕ) → row_has new k n ≡ cond (has_number places k && nat_lt k least) (change (row_has old k n) n) (row_has old k n)
 
-pub IsChangedTo-none : (change : Bool → ℕ → Bool) (rows : List (List ℕ)) (places : List ℕ) → IsChangedTo change rows rows places 0
-IsChangedTo-none change rows places = record {
-  count = refl;
-  each = λ k n. sym (cond-false (has_number places k && nat_lt k 0) (change (row_has rows k n) n) (row_has rows k n) (and_right (has_number places k) (nat_lt k 0) (le-ltb k 0 (omega arith))));
-}
-
 -- a place before the next one is done exactly where it was done already
 done_already : (places : List ℕ) (least place k : ℕ) → IsFirstFrom places least place → (k ≡ place → ⊥)
     → (has_number places k && nat_lt k least) ≡ (has_number places k && nat_lt k (place + 1))

@@ -1,6 +1,6 @@
 -- Lists in ascending order stay so when one is placed and when some are left out.
-use Rattle.std.proofs.Common.{◌≡◌, ◌==◌, ℕ, ◌<◌, Bool, false, cond, ◌&&◌, IsTrue, List, [], ◌∷◌, filter, sym, ◌∙◌, ⊎_elim, eqb-true, eq-eqb, ltb-true, lt-ltb, nat_lt, arith, All}
-use Rattle.std.proofs.lemmas.Bool.{or_cases, or_left, or_right, and_parts, and_from, false≢true, cond_both, cases_order, or_parts}
+use Rattle.std.proofs.Common.{◌≡◌, ◌==◌, ℕ, ◌<◌, Bool, false, cond, IsTrue, List, [], ◌∷◌, filter, ltb-true, lt-ltb, nat_lt, arith, All}
+use Rattle.std.proofs.lemmas.Bool.{cond_both}
 use Rattle.std.proofs.lemmas.Bool.Decides.{nat_tests}
 use Rattle.std.proofs.lemmas.List.Elements.{All-nil, All-cons, All-head, All-tail, All-weaker, All-filter}
 use Rattle.dt_graph.specs.Graph.{Link, is_link, is_link_before, place_number, place_link, AscendingLinks}
@@ -87,25 +87,8 @@ AscendingNumbers-cons first numbers all ascending = numbers_from (first ∷ numb
 
 -- ---- links
 
-link_order : Transitive is_link_before
-link_order a b c first second = ⊎_elim
-    (λ less. ⊎_elim
-    (λ less'. or_left _ _ (lt-ltb a.class c.class (omega (arith, ltb-true a.class b.class less, ltb-true b.class c.class less'))))
-    (λ same'.
-    let ends = and_parts (b.class == c.class) (nat_lt b.parent c.parent) same' in
-    or_left _ _ (lt-ltb a.class c.class (omega (arith, ltb-true a.class b.class less, eqb-true b.class c.class ends.0))))
-    (or_cases (nat_lt b.class c.class) ((b.class == c.class) && nat_lt b.parent c.parent) second))
-    (λ same.
-    let ends = and_parts (a.class == b.class) (nat_lt a.parent b.parent) same in
-    ⊎_elim
-    (λ less'. or_left _ _ (lt-ltb a.class c.class (omega (arith, eqb-true a.class b.class ends.0, ltb-true b.class c.class less'))))
-    (λ same'.
-    let ends' = and_parts (b.class == c.class) (nat_lt b.parent c.parent) same' in
-    or_right (nat_lt a.class c.class) _ (and_from _ _
-    (eq-eqb a.class c.class (eqb-true a.class b.class ends.0 ∙ eqb-true b.class c.class ends'.0))
-    (lt-ltb a.parent c.parent (omega (arith, ltb-true a.parent b.parent ends.1, ltb-true b.parent c.parent ends'.1)))))
-    (or_cases (nat_lt b.class c.class) ((b.class == c.class) && nat_lt b.parent c.parent) second))
-    (or_cases (nat_lt a.class b.class) ((a.class == b.class) && nat_lt a.parent b.parent) first)
+pub link_order : Transitive is_link_before
+link_order a b c first second = grind (arith, nat_tests)
 
 links_to_order : (links : List Link) → AscendingLinks links → Ascends is_link_before links
 links_to_order [] h = tt
@@ -119,21 +102,7 @@ links_from_order (a ∷ b ∷ links) h = (h.0, links_from_order (b ∷ links) h.
 
 -- of two links that aren't the same one stands before the other
 one_before : (a b : Link) → is_link_before a b ≡ false → is_link a.class a.parent b ≡ false → IsTrue (is_link_before b a)
-one_before a b not_before other =
-    let neither = or_parts (nat_lt a.class b.class) ((a.class == b.class) && nat_lt a.parent b.parent) not_before in
-    ⊎_elim
-    (λ same. or_right (nat_lt b.class a.class) _ (and_from _ _ (eq-eqb b.class a.class (sym same)) (⊎_elim
-    (λ same_parent. absurd (false≢true (sym other ∙ and_from _ _ (eq-eqb b.class a.class (sym same)) (eq-eqb b.parent a.parent (sym same_parent)))))
-    (λ apart. ⊎_elim
-    (λ less. absurd (false≢true (sym neither.1 ∙ and_from _ _ (eq-eqb a.class b.class same) (lt-ltb a.parent b.parent less))))
-    (λ more. lt-ltb b.parent a.parent more)
-    apart)
-    (cases_order a.parent b.parent))))
-    (λ apart. ⊎_elim
-    (λ less. absurd (false≢true (sym neither.0 ∙ lt-ltb a.class b.class less)))
-    (λ more. or_left _ _ (lt-ltb b.class a.class more))
-    apart)
-    (cases_order a.class b.class)
+one_before a b not_before other = grind (arith, nat_tests)
 
 All-place_link : (P : Link → Type 0) (new : Link) (links : List Link) → P new → All P links → All P (place_link new links)
 All-place_link P new [] one all = All-cons P new [] one all

@@ -1,6 +1,7 @@
 -- The numbers of a class set against the bits of its words.
 use Rattle.std.proofs.Common.{◌≡◌, ◌==◌, ℕ, zero, suc, ◌+◌, ◌-◌, ◌*◌, ◌/◌, ◌%◌, ◌^◌, ◌<◌, ◌≤◌, Bool, not, ◌&&◌, ◌||◌, IsTrue, List, [], ◌∷◌, ◌++◌, length, get_or, set, replicate, filter, All, refl, sym, ap, ◌∙◌, ⊎_elim, arith, eq-eqb, ne_eqb, eqb-true, lt-ltb, inl, inr, w64, min, max, subst, length-append}
 use Rattle.std.proofs.lemmas.Bool.{or_cases, or_left, or_right, and_right, cases_Bool, cases_eq, cases_lt, cond-true, cond-false, false≢true, eqb-false}
+use Rattle.std.proofs.lemmas.Bool.Decides.{nat_tests}
 use Rattle.std.proofs.lemmas.List.{get_or_past, get_or-replicate, get_or-set_same, get_or-set_other, length-set, length-replicate}
 use Rattle.std.proofs.lemmas.Nat.Bits.{bit_at-zero, bit_at-suc, bit_at_lowest, bit_at-lt, bit_at_and, bit_at_or, bit_at_not, bit_at_set_same, bit_at_set_other, bit_at_clear_same, bit_at_clear_other, shr_and_one}
 use Rattle.std.specs.Prelude.{bit_and, bit_or}
@@ -183,20 +184,10 @@ removed limit words numbers c n shown all inside =
 -- ---- all words
 
 bit_either : (a b : ℕ) → a < 2 → b < 2 → (max a b == 1) ≡ ((a == 1) || (b == 1))
-bit_either zero zero l m = refl
-bit_either zero (suc zero) l m = refl
-bit_either (suc zero) zero l m = refl
-bit_either (suc zero) (suc zero) l m = refl
-bit_either (suc (suc a)) b l m = absurd (omega arith)
-bit_either a (suc (suc b)) l m = absurd (omega arith)
+bit_either a b l m = grind (arith, nat_tests)
 
 bit_left : (a b : ℕ) → a < 2 → b < 2 → (min a (1 - b) == 1) ≡ ((a == 1) && not (b == 1))
-bit_left zero zero l m = refl
-bit_left zero (suc zero) l m = refl
-bit_left (suc zero) zero l m = refl
-bit_left (suc zero) (suc zero) l m = refl
-bit_left (suc (suc a)) b l m = absurd (omega arith)
-bit_left a (suc (suc b)) l m = absurd (omega arith)
+bit_left a b l m = grind (arith, nat_tests)
 
 -- a set over each of three lists of words of one length
 pub record AreSets (limit : ℕ) (made first second first_numbers second_numbers : List ℕ) : Type 0 where

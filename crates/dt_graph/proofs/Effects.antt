@@ -1,11 +1,11 @@
 -- Which classes are live and which links are there after a change: what the change is about, and what was there.
-use Rattle.std.proofs.Common.{◌≡◌, ◌==◌, ◌≢◌, ℕ, Bool, true, false, not, ◌&&◌, ◌||◌, IsTrue, List, [], ◌∷◌, filter, refl, sym, ap, subst, ◌∙◌, ⊎_elim, eqb-true, eq-eqb, ne_eqb}
+use Rattle.std.proofs.Common.{◌≡◌, ◌==◌, ◌≢◌, ℕ, Bool, true, false, not, ◌&&◌, ◌||◌, IsTrue, List, [], ◌∷◌, filter, refl, sym, ap, subst, ◌∙◌, ⊎_elim, eqb-true, eq-eqb, ne_eqb, arith}
 use Rattle.std.proofs.lemmas.Bool.{or_cases, or_left, or_right, and_parts, and_from, and_right, cond_both}
 use Rattle.dt_graph.specs.Graph.{Link, Graph, has_number, is_live, is_link, has_link, place_link, place_links}
 use Rattle.dt_graph.specs.GraphChange.{add_effect, drop_effect, link_effect, unlink_effect}
 use Rattle.dt_graph.specs.Restore.{restore_effect}
 use Rattle.dt_graph.proofs.LinkLists.{has_number-placed, has_link-placed, has_number-filter, has_number-kept, has_link-filter}
-use Rattle.dt_graph.proofs.AscendingSets.{same_truth}
+use Rattle.dt_graph.proofs.AscendingSets.{same_truth, and_true}
 
 -- ---- what is left of numbers and links
 
@@ -36,14 +36,10 @@ has_link-filtered test links a b = same_truth (has_link (filter test links) a b)
 -- ---- what is there with links to some parents
 
 one_more : (own parent later old : Bool) → ((own && later) || ((own && parent) || old)) ≡ ((own && (parent || later)) || old)
-one_more false parent later old = refl
-one_more true true true old = refl
-one_more true true false old = refl
-one_more true false later old = refl
+one_more own parent later old = grind arith
 
 none_more : (own old : Bool) → old ≡ ((own && false) || old)
-none_more true old = refl
-none_more false old = refl
+none_more own old = grind arith
 
 has_link-all_placed : (class : ℕ) (parents : List ℕ) (links : List Link) (a b : ℕ) → has_link (place_links class parents links) a b ≡ (((class == a) && has_number parents b) || has_link links a b)
 has_link-all_placed class [] links a b = none_more (class == a) (has_link links a b)
@@ -84,13 +80,8 @@ links_after_unlink g class parent low high = has_link-filtered (λ link. not (is
 pub never_own : (class : ℕ) (t : Bool) → (t && not (class == class)) ≡ false
 never_own class t = and_right t (not (class == class)) (ap not (eq-eqb class class refl))
 
-kept_with : (t kept : Bool) → kept ≡ true → (t && kept) ≡ t
-kept_with true kept same = same
-kept_with false kept same = refl
-
 or_false : (t : Bool) → (t || false) ≡ t
-or_false true = refl
-or_false false = refl
+or_false t = grind arith
 
 pub live_restored : (g : Graph) (class : ℕ) (live : Bool) (parents : List ℕ) → is_live (restore_effect g class live parents) class ≡ live
 live_restored g class true parents =
@@ -103,7 +94,7 @@ others_live_restored g class other live parents apart = go live
     dropped : is_live (drop_effect g class) other ≡ is_live g other
     dropped =
         live_after_drop g class other
-        ∙ kept_with (is_live g other) (not (other == class)) (ap not (ne_eqb other class (λ same. apart (sym same))))
+        ∙ and_true (is_live g other) (not (other == class)) (ap not (ne_eqb other class (λ same. apart (sym same))))
 
     go : (live : Bool) → is_live (restore_effect g class live parents) other ≡ is_live g other
     go true =
@@ -132,7 +123,7 @@ others_links_restored g class low high live parents apart = go live
     dropped : has_link (drop_effect g class).links low high ≡ has_link g.links low high
     dropped =
         links_after_drop g class low high
-        ∙ kept_with (has_link g.links low high) (not (low == class)) (ap not (ne_eqb low class (λ same. apart (sym same))))
+        ∙ and_true (has_link g.links low high) (not (low == class)) (ap not (ne_eqb low class (λ same. apart (sym same))))
 
     go : (live : Bool) → has_link (restore_effect g class live parents).links low high ≡ has_link g.links low high
     go true =

@@ -16,6 +16,10 @@ pub record IsRowOf (graph : Graph) (rows : List Row) (n class : ℕ) : Type 0 wh
   pub same : n ≡ class
   pub inside : n < length rows
 
+-- the row at the class's number
+pub row_at : (graph : Graph) (rows : List Row) (n class : ℕ) → graph_of rows ≡ graph → LawfulRows rows → n ≡ class → n < CLASSES → IsRowOf graph rows n class
+row_at graph rows n class shown lawful same low = record { shown = shown; same = same; inside = omega (arith, lawful.count) }
+
 lawful_of : (graph : Graph) (rows : List Row) (n class : ℕ) → IsRowOf graph rows n class → LawfulRows rows → LawfulGraph graph
 lawful_of graph rows n class at old = subst LawfulGraph at.shown old.lawful
 

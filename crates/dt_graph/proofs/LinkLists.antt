@@ -38,16 +38,11 @@ all_links P (link ∷ links) each = All-cons (λ l. P l.class l.parent) link lin
 
 -- ---- after one more is placed
 
-or_swap : (x y z : Bool) → (x || (y || z)) ≡ (y || (x || z))
-or_swap true true z = refl
-or_swap true false z = refl
-or_swap false true z = refl
-or_swap false false z = refl
+pub or_swap : (x y z : Bool) → (x || (y || z)) ≡ (y || (x || z))
+or_swap x y z = grind arith
 
 or_twice : (x y z : Bool) → x ≡ y → (x || (y || z)) ≡ (y || z)
-or_twice true true z same = refl
-or_twice false y z same = refl
-or_twice true false z same = absurd (false≢true (sym same))
+or_twice x y z same = grind arith
 
 pub has_number-placed : (new : ℕ) (numbers : List ℕ) (n : ℕ) → has_number (place_number new numbers) n ≡ ((new == n) || has_number numbers n)
 has_number-placed new [] n = refl

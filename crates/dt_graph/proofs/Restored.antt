@@ -12,6 +12,7 @@ use Rattle.dt_graph.specs.declared.class_rows.Row.{Row}
 use Rattle.dt_graph.proofs.RowChanges.{live_from-placed, links_from-filled}
 use Rattle.dt_graph.proofs.GraphChanges.{IsRowOf, dropped}
 use Rattle.dt_graph.proofs.LawfulChanges.{joins_live, no_parents}
+use Rattle.dt_graph.proofs.Ascending.{link_order}
 use Rattle.dt_graph.proofs.AscendingSets.{ascending_tail}
 
 -- ---- what the rows stand for
@@ -134,12 +135,9 @@ abbrev pub LinkBelowAll : Link → List Link → Type 0
 LinkBelowAll l [] = Unit {0}
 LinkBelowAll l (m ∷ links) = IsTrue (is_link_before l m) × LinkBelowAll l links
 
-before_trans : (a b c : Link) → IsTrue (is_link_before a b) → IsTrue (is_link_before b c) → IsTrue (is_link_before a c)
-before_trans a b c p q = grind (arith, nat_tests)
-
 link_below_less : (a b : Link) (links : List Link) → IsTrue (is_link_before a b) → LinkBelowAll b links → LinkBelowAll a links
 link_below_less a b [] l h = tt
-link_below_less a b (c ∷ links) l h = (before_trans a b c l h.0, link_below_less a b links l h.1)
+link_below_less a b (c ∷ links) l h = (link_order a b c l h.0, link_below_less a b links l h.1)
 
 pub link_below_rest : (l : Link) (links : List Link) → AscendingLinks (l ∷ links) → LinkBelowAll l links
 link_below_rest l [] h = tt

@@ -4,7 +4,7 @@ use Rattle.dt_graph.specs.declared.class_rows.Row.{Row}
 use Rattle.dt_graph.proofs.ParentLists.{parent_count_listed}
 use Rattle.dt_graph.proofs.Rows.{parents_of-read}
 use Rattle.dt_graph.proofs.LawfulChanges.{may_be_linked}
-use Rattle.dt_graph.proofs.GraphChanges.{IsRowOf, linked, linked_lawful}
+use Rattle.dt_graph.proofs.GraphChanges.{IsRowOf, row_at, linked, linked_lawful}
 use Rattle.dt_graph.proofs.class_rows.ClassRows.insert_link.Goals as goal
 
 pub place-requires : goal.place-requires
@@ -15,11 +15,7 @@ place-requires c =
     omega (arith, ap length listed, parent_count_listed c.args.self.now.links c.args.class, may.room)
 
 at : (c : goal.After-self-1) → IsRowOf c.args.self.now c.self.inside.rows.items c.number.result c.args.class
-at c = record {
-  shown = c.self.view_is;
-  same = c.number.ensures.value;
-  inside = omega (arith, c.self.invariant.count, c.number.ensures.in_range);
-}
+at c = row_at c.args.self.now c.self.inside.rows.items c.number.result c.args.class c.self.view_is c.self.invariant c.number.ensures.value c.number.ensures.in_range
 
 after : goal.After-self-1 → Row
 after c = record { is_live = c.index_mut-row.result.now.is_live; parents = c.place.new.parents }

@@ -1,13 +1,8 @@
-use Rattle.std.proofs.Common.{arith}
-use Rattle.dt_graph.proofs.GraphChanges.{IsRowOf, dropped, dropped_lawful}
+use Rattle.dt_graph.proofs.GraphChanges.{IsRowOf, row_at, dropped, dropped_lawful}
 use Rattle.dt_graph.proofs.class_rows.ClassRows.remove.Goals as goal
 
 at : (c : goal.After-self-1) → IsRowOf c.args.self.now c.self.inside.rows.items c.number.result c.args.class
-at c = record {
-  shown = c.self.view_is;
-  same = c.number.ensures.value;
-  inside = omega (arith, c.self.invariant.count, c.number.ensures.in_range);
-}
+at c = row_at c.args.self.now c.self.inside.rows.items c.number.result c.args.class c.self.view_is c.self.invariant c.number.ensures.value c.number.ensures.in_range
 
 pub invariant_of-self : goal.invariant_of-self
 invariant_of-self c =

@@ -1,14 +1,10 @@
-use Rattle.std.proofs.Common.{◌==◌, ◌∙◌, not, filter, ap, arith}
+use Rattle.std.proofs.Common.{◌==◌, ◌∙◌, not, filter, ap}
 use Rattle.dt_graph.specs.declared.class_rows.Row.{Row}
-use Rattle.dt_graph.proofs.GraphChanges.{IsRowOf, unlinked, unlinked_lawful}
+use Rattle.dt_graph.proofs.GraphChanges.{IsRowOf, row_at, unlinked, unlinked_lawful}
 use Rattle.dt_graph.proofs.class_rows.ClassRows.remove_link.Goals as goal
 
 at : (c : goal.After-self-1) → IsRowOf c.args.self.now c.self.inside.rows.items c.number.result c.args.class
-at c = record {
-  shown = c.self.view_is;
-  same = c.number.ensures.value;
-  inside = omega (arith, c.self.invariant.count, c.number.ensures.in_range);
-}
+at c = row_at c.args.self.now c.self.inside.rows.items c.number.result c.args.class c.self.view_is c.self.invariant c.number.ensures.value c.number.ensures.in_range
 
 after : goal.After-self-1 → Row
 after c = record { is_live = c.index_mut-row.result.now.is_live; parents = c.without-row.result }
