@@ -42,6 +42,9 @@ the_diamond : diamond ≡ record {
 }
 the_diamond = refl
 
+nothing_is_live_at_first : is_live empty_graph shape ≡ false
+nothing_is_live_at_first = refl
+
 a_circle_is_live : is_live diamond circle ≡ true
 a_circle_is_live = refl
 
@@ -108,6 +111,9 @@ a_class_that_is_not_live_has_no_descendants = refl
 what_a_squircle_is : parents_of diamond.links squircle ≡ circle ∷ square ∷ []
 what_a_squircle_is = refl
 
+a_shape_is_nothing_else : parents_of diamond.links shape ≡ []
+a_shape_is_nothing_else = refl
+
 a_class_placed_again_stays_once : place_number circle (shape ∷ circle ∷ square ∷ []) ≡ shape ∷ circle ∷ square ∷ []
 a_class_placed_again_stays_once = refl
 
@@ -126,6 +132,12 @@ a_link_placed_between = refl
 
 two_links_placed : place_links squircle (square ∷ circle ∷ []) (to circle shape ∷ []) ≡ to circle shape ∷ to squircle circle ∷ to squircle square ∷ []
 two_links_placed = refl
+
+one_link_to_a_parent_named_twice : place_links squircle (circle ∷ circle ∷ []) [] ≡ to squircle circle ∷ []
+one_link_to_a_parent_named_twice = refl
+
+a_class_added_again_changes_nothing : add_effect diamond circle (shape ∷ []) ≡ diamond
+a_class_added_again_changes_nothing = refl
 
 a_link_made_again_stays_once : link_effect diamond squircle circle ≡ diamond
 a_link_made_again_stays_once = refl

@@ -1,7 +1,7 @@
 -- Worked examples of refusals: each cause, and which of two is told.
 use Rattle.std.specs.Prelude.{◌≡◌, true, false, [], ◌∷◌, replicate, None, Some, Ok, Err, refl}
 use Rattle.dt_graph.specs.Refusal.{cause_if, first_cause, ok_unless}
-use Rattle.dt_graph.specs.Graph.{Graph}
+use Rattle.dt_graph.specs.Graph.{Graph, empty_graph}
 use Rattle.dt_graph.specs.GraphChange.{add_cause, add_effect, drop_cause, link_cause, unlink_cause, unlink_effect, unknown, first_unknown, lowest_subclass, first_repeated}
 use Rattle.dt_graph.specs.declared.graph_fault.GraphFault.TheVariants.{ClassExists, ClassUnknown, ParentTwice, TooManyParents, HasSubclasses, LinkExists, LinkUnknown, Cycle}
 use Rattle.dt_graph.specs.Examples.{shape, circle, square, squircle, other, diamond}
@@ -23,6 +23,9 @@ no_cause_is_there = refl
 refused : ok_unless (Some Cycle) circle ≡ Err Cycle
 refused = refl
 
+refused_for_a_subclass : ok_unless (drop_cause diamond shape) other ≡ Err (HasSubclasses circle)
+refused_for_a_subclass = refl
+
 not_refused : ok_unless (drop_cause diamond squircle) circle ≡ Ok circle
 not_refused = refl
 
@@ -39,6 +42,9 @@ none_is_unknown : first_unknown diamond (circle ∷ shape ∷ []) ≡ None
 none_is_unknown = refl
 
 -- ---- a class is added
+
+a_first_class : add_cause empty_graph shape [] ≡ None
+a_first_class = refl
 
 a_live_class_is_not_added : add_cause diamond circle (other ∷ []) ≡ Some ClassExists
 a_live_class_is_not_added = refl
