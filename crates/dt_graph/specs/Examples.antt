@@ -175,6 +175,12 @@ in_its_place : (link_effect diamond squircle shape).links ≡
     to circle shape ∷ to square shape ∷ to squircle shape ∷ to squircle circle ∷ to squircle square ∷ []
 in_its_place = refl
 
+the_other_links_stay : unlink_effect diamond squircle circle ≡ record {
+  classes = shape ∷ circle ∷ square ∷ squircle ∷ [];
+  links = to circle shape ∷ to square shape ∷ to squircle square ∷ [];
+}
+the_other_links_stay = refl
+
 -- ---- what is restored
 
 the_link_that_was_taken_away : restore_effect (unlink_effect diamond squircle circle) squircle true (circle ∷ square ∷ []) ≡ diamond

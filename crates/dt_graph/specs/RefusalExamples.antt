@@ -71,6 +71,15 @@ four_is_added = refl
 no_parent_is_named_twice : first_repeated [] (shape ∷ circle ∷ square ∷ []) ≡ None
 no_parent_is_named_twice = refl
 
+one_that_comes_again_after_another : first_repeated [] (shape ∷ circle ∷ shape ∷ []) ≡ Some shape
+one_that_comes_again_after_another = refl
+
+a_dead_parent_before_one_named_twice : add_cause diamond 4 (other ∷ other ∷ []) ≡ Some (ClassUnknown other)
+a_dead_parent_before_one_named_twice = refl
+
+seventeen_dead_parents_for_a_live_class : add_cause diamond circle (replicate 17 other) ≡ Some ClassExists
+seventeen_dead_parents_for_a_live_class = refl
+
 -- ---- a class is dropped
 
 the_lowest_subclass : drop_cause diamond shape ≡ Some (HasSubclasses circle)
