@@ -11,6 +11,9 @@ use std::test::Fail;
 /// How many classes the graphs are about.
 const USED: u16 = 30;
 
+/// How far apart their numbers are: far enough that the last stands among the highest 64.
+const GAP: u16 = 70;
+
 /// How many changes each graph goes through.
 const CHANGES: u16 = 1_000;
 
@@ -51,14 +54,14 @@ impl Lots {
 
 /// The class at a place of the order in which a graph begins, which isn't that of the numbers.
 fn class_at(place: u16) -> ClassNo {
-    ClassNo::new((place % USED * 11 % USED) * 67).unwrap_or_default()
+    ClassNo::new((place % USED * 11 % USED) * GAP).unwrap_or_default()
 }
 
 /// The classes that the graphs are about, in ascending order.
 fn used_classes() -> Few {
     let mut classes = Few::new();
     for number in 0..USED {
-        let _ = classes.try_push(ClassNo::new(number * 67).unwrap_or_default());
+        let _ = classes.try_push(ClassNo::new(number * GAP).unwrap_or_default());
     }
     classes
 }
