@@ -6,16 +6,16 @@ use Rattle.dt_selectors.specs.Selectors.{Selector, arity_in, has_selector, place
 use Rattle.dt_selectors.specs.declared.selectors.SelectorFault.TheVariants.{SelectorExists, SelectorUnknown}
 
 -- three texts: "ab", "b" and "c"
-abbrev ab : List ℕ
+abbrev pub ab : List ℕ
 ab = 97 ∷ 98 ∷ []
 
-abbrev b : List ℕ
+abbrev pub b : List ℕ
 b = 98 ∷ []
 
-abbrev c : List ℕ
+abbrev pub c : List ℕ
 c = 99 ∷ []
 
--- a text is the same as itself, and not as one that it begins or that begins it
+-- a text is the same as itself, and not as one that it begins or that begins it, nor as one that ends otherwise
 same_as_itself : same_text ab ab ≡ true
 same_as_itself = refl
 
@@ -25,8 +25,11 @@ not_as_a_longer = refl
 not_as_a_shorter : same_text ab (97 ∷ []) ≡ false
 not_as_a_shorter = refl
 
+not_by_its_first_byte : same_text ab (97 ∷ 99 ∷ []) ≡ false
+not_by_its_first_byte = refl
+
 -- two names of at most two
-abbrev two_names : Names
+abbrev pub two_names : Names
 two_names = with_name (with_name (record { limit = 2; texts = [] }) ab) b
 
 -- a name is numbered by its first appearance
@@ -93,7 +96,7 @@ too_long_for_a_name : is_name (replicate 65 33) ≡ false
 too_long_for_a_name = refl
 
 -- selector 7 with one argument and selector 9 with two
-abbrev two_selectors : List Selector
+abbrev pub two_selectors : List Selector
 two_selectors =
     place_selector (record { number = 7; arity = 1 }) (place_selector (record { number = 9; arity = 2 }) [])
 

@@ -1,5 +1,5 @@
 -- What follows from the definitions of names and selectors.
-use Rattle.std.specs.Prelude.{◌≡◌, ◌==◌, ℕ, if◌then◌else◌, List, [], ◌∷◌, ◌++◌, length, Option, None, Some}
+use Rattle.std.specs.Prelude.{◌≡◌, ◌==◌, ℕ, if◌then◌else◌, List, [], ◌∷◌, ◌++◌, length, None, Some}
 use Rattle.dt_selectors.specs.Names.{Names, place_of, with_name}
 use Rattle.dt_selectors.specs.Selectors.{Selector, arity_in, place_selector, without_selector}
 

@@ -1,5 +1,6 @@
 pub mod Examples
 pub mod Lawful
+pub mod LawfulExamples
 pub mod Laws
 pub mod Names
 pub mod Rows

@@ -1,4 +1,4 @@
-use Rattle.std.proofs.Common.{◌<◌, subst, arith}
+use Rattle.std.proofs.Common.{subst, arith}
 use Rattle.std.specs.Prelude.{IsTrue}
 use Rattle.dt_selectors.specs.Names.{is_name}
 use Rattle.dt_selectors.specs.Lawful.{LawfulNames}
