@@ -9,8 +9,8 @@ use Rattle.dt_definitions.specs.Program.{Definition}
 use Rattle.dt_definitions.specs.DefinitionRows.{definition_of, with_selector}
 use Rattle.dt_definitions.specs.declared.defined.Defined.{Defined}
 use Rattle.dt_scratch.specs.declared.reply.Answer.TheVariants.{Method, NotUnderstood, Ambiguous}
-use Rattle.dt_scratch.specs.Resolve.{are_below, is_more_specific, minimal, answer_by}
-use Rattle.dt_scratch.specs.Among.{answer_among, applicable_among, count_unbeaten, is_more_specific_at, IsTransitive}
+use Rattle.dt_scratch.specs.Resolve.{are_below, is_more_specific, is_more_specific_at, minimal, answer_by}
+use Rattle.dt_scratch.specs.Among.{answer_among, applicable_among, count_unbeaten, IsTransitive}
 use Rattle.dt_scratch.proofs.MoreSpecific.{is_more_specific-irreflexive}
 use Rattle.dt_scratch.proofs.Best.{is_beaten}
 use Rattle.dt_scratch.proofs.Members.{In, In-filter, In-from_Contains, filter-map, filter-filter, list_any-map}

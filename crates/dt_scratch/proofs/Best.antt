@@ -9,8 +9,8 @@ use Rattle.std.proofs.lemmas.List.{take_all}
 use Rattle.std.proofs.lemmas.List.Folds.{list_any-append}
 use Rattle.dt_graph.specs.Graph.{Link}
 use Rattle.dt_definitions.specs.declared.defined.Defined.{Defined}
-use Rattle.dt_scratch.specs.Resolve.{are_below}
-use Rattle.dt_scratch.specs.Among.{applicable_among, is_better, is_more_specific_at, IsTransitive}
+use Rattle.dt_scratch.specs.Resolve.{are_below, is_more_specific_at}
+use Rattle.dt_scratch.specs.Among.{applicable_among, is_better, IsTransitive}
 use Rattle.dt_scratch.proofs.MoreSpecific.{is_more_specific-irreflexive}
 use Rattle.dt_scratch.proofs.Members.{In, In-append, In-push, Contains-from_In, none_at, none_from}
 

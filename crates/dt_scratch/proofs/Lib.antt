@@ -1,5 +1,6 @@
 pub mod AnswerAmong
 pub mod Best
+pub mod Cells
 pub mod FreeOrder
 pub mod LiveNumbers
 pub mod Lowest

@@ -4,8 +4,8 @@ use Rattle.std.proofs.lemmas.Bool.{false≢true, and_parts, and_from, eqb-true, 
 use Rattle.dt_graph.specs.Graph.{Link}
 use Rattle.dt_graph.specs.Below.{is_below}
 use Rattle.dt_definitions.specs.Program.{same_classes}
-use Rattle.dt_scratch.specs.Resolve.{are_below}
-use Rattle.dt_scratch.specs.Among.{is_more_specific_at, IsTransitive}
+use Rattle.dt_scratch.specs.Resolve.{are_below, is_more_specific_at}
+use Rattle.dt_scratch.specs.Among.{IsTransitive}
 
 pub same_classes-refl : (xs : List ℕ) → same_classes xs xs ≡ true
 same_classes-refl [] = refl

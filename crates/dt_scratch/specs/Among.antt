@@ -1,10 +1,10 @@
 -- Look-up among the definitions that a program keeps for one selector.
 use Rattle.std.specs.Prelude.{◌≡◌, ℕ, Bool, true, ◌&&◌, not, List, Option, None, Some, count_by, filter}
 use Rattle.dt_graph.specs.Graph.{Link}
-use Rattle.dt_definitions.specs.Program.{Definition, same_classes}
+use Rattle.dt_definitions.specs.Program.{Definition}
 use Rattle.dt_definitions.specs.declared.defined.Defined.{Defined}
 use Rattle.dt_scratch.specs.declared.reply.Answer.{Answer}
-use Rattle.dt_scratch.specs.Resolve.{are_below, minimal, answer_by}
+use Rattle.dt_scratch.specs.Resolve.{are_below, is_more_specific_at, minimal, answer_by}
 
 -- the answer to a query at these classes, whose selector has these definitions
 abbrev pub answer_among : List Link → List ℕ → List Definition → Answer
@@ -14,10 +14,6 @@ answer_among links classes definitions =
 -- those that are applicable to the classes
 abbrev pub applicable_among : List Link → List ℕ → List Defined → List Defined
 applicable_among links classes defined = filter (λ d. are_below links classes d.classes) defined
-
--- whether the first list of classes is another than the second, and at least as specific in every place
-abbrev pub is_more_specific_at : List Link → List ℕ → List ℕ → Bool
-is_more_specific_at links a b = not (same_classes a b) && are_below links a b
 
 -- more specific goes on: what is more specific than one is more specific than all that the one is
 abbrev pub IsTransitive : List Link → Type 0

@@ -1,6 +1,6 @@
 -- Worked examples of look-up from scratch.
 use Rattle.std.specs.Prelude.{◌≡◌, ℕ, true, false, List, [], ◌∷◌, None, Some, refl}
-use Rattle.std.specs.declared.cmp.Ordering.TheVariants.{Less, Equal}
+use Rattle.std.specs.declared.cmp.Ordering.TheVariants.{Less, Equal, Greater}
 use Rattle.dt_graph.specs.GraphChange.{add_effect, unlink_effect}
 use Rattle.dt_graph.specs.Graph.{Graph, empty_graph}
 use Rattle.dt_definitions.specs.Program.{Definition, Program, place_definition}
@@ -11,47 +11,47 @@ use Rattle.dt_scratch.specs.QueryParts.{pad}
 use Rattle.dt_scratch.specs.Resolve.{are_below, applicable, is_more_specific, minimal, answer_by, answer, first_dead, reply, cell}
 
 -- a selector's number, and a query of one class or two
-abbrev asks : ℕ → ℕ → Query
+abbrev pub asks : ℕ → ℕ → Query
 asks selector class = record { selector = selector; classes = class ∷ [] }
 
-abbrev asks_two : ℕ → ℕ → ℕ → Query
+abbrev pub asks_two : ℕ → ℕ → ℕ → Query
 asks_two selector first second = record { selector = selector; classes = first ∷ second ∷ [] }
 
 -- with one definition more
-abbrev defined : ℕ → List ℕ → ℕ → List Definition → List Definition
+abbrev pub defined : ℕ → List ℕ → ℕ → List Definition → List Definition
 defined selector classes body = place_definition (record { selector = selector; classes = classes; body = body })
 
 -- The diamond: classes A, B and C below it, D below both; f is defined at B and at C.
-abbrev A : ℕ
+abbrev pub A : ℕ
 A = 0
 
-abbrev B : ℕ
+abbrev pub B : ℕ
 B = 1
 
-abbrev C : ℕ
+abbrev pub C : ℕ
 C = 2
 
-abbrev D : ℕ
+abbrev pub D : ℕ
 D = 3
 
-abbrev f : ℕ
+abbrev pub f : ℕ
 f = 4
 
-abbrev diamond_graph : Graph
+abbrev pub diamond_graph : Graph
 diamond_graph =
     add_effect (add_effect (add_effect (add_effect empty_graph A []) B (A ∷ [])) C (A ∷ [])) D (B ∷ C ∷ [])
 
-abbrev diamond_definitions : List Definition
+abbrev pub diamond_definitions : List Definition
 diamond_definitions = defined f (B ∷ []) 10 (defined f (C ∷ []) 20 [])
 
-abbrev program_of : Graph → List Definition → Program
+abbrev pub program_of : Graph → List Definition → Program
 program_of graph definitions = record {
   graph = graph;
   selectors = record { number = f; arity = 1 } ∷ [];
   definitions = definitions;
 }
 
-abbrev diamond : Program
+abbrev pub diamond : Program
 diamond = program_of diamond_graph diamond_definitions
 
 -- no definition is above A
@@ -93,7 +93,7 @@ not_by_more : are_below diamond_graph.links (D ∷ D ∷ []) (A ∷ []) ≡ fals
 not_by_more = refl
 
 -- what a selector is at a class
-abbrev at : ℕ → ℕ → ℕ → Definition
+abbrev pub at : ℕ → ℕ → ℕ → Definition
 at selector class body = record { selector = selector; classes = class ∷ []; body = body }
 
 -- applicable are those above the query's class, of the query's selector alone
@@ -225,6 +225,12 @@ then_arity = refl
 
 then_classes : query_order (asks_two 1 3 9) (asks_two 1 4 0) ≡ Less
 then_classes = refl
+
+then_later_classes : query_order (asks_two 1 3 9) (asks_two 1 3 4) ≡ Greater
+then_later_classes = refl
+
+the_other_way_round : query_order (asks 2 0) (asks_two 1 9 9) ≡ Greater
+the_other_way_round = refl
 
 same_in_all : query_order (asks_two 1 3 9) (asks_two 1 3 9) ≡ Equal
 same_in_all = refl

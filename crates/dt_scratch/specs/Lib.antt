@@ -1,5 +1,8 @@
 pub mod Among
+pub mod AmongExamples
+pub mod CellLaws
 pub mod Examples
+pub mod LawExamples
 pub mod Laws
 pub mod Query
 pub mod QueryParts

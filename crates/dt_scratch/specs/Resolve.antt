@@ -22,9 +22,13 @@ abbrev pub applicable : Program → Query → List Definition
 applicable p query =
     filter (λ d. (d.selector == query.selector) && are_below p.graph.links query.classes d.classes) p.definitions
 
--- whether the first definition is another than the second, and at least as specific in every place
+-- whether the first list of classes is another than the second, and at least as specific in every place
+abbrev pub is_more_specific_at : List Link → List ℕ → List ℕ → Bool
+is_more_specific_at links a b = not (same_classes a b) && are_below links a b
+
+-- whether the first definition is more specific than the second: it is so at its classes
 abbrev pub is_more_specific : List Link → Definition → Definition → Bool
-is_more_specific links a b = not (same_classes a.classes b.classes) && are_below links a.classes b.classes
+is_more_specific links a b = is_more_specific_at links a.classes b.classes
 
 -- those of the definitions for which no other has, in every place, a class below theirs
 abbrev pub minimal : List Link → List Definition → List Definition

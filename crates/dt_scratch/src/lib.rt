@@ -9,7 +9,9 @@ mod query;
 mod reply;
 mod specificity;
 
-pub use laws::{law_of_answers, order_is_free, others_keep_their_reply, top_sees_itself};
+pub use laws::{
+    law_of_answers, law_of_cells, order_is_free, others_keep_their_reply, top_sees_itself,
+};
 pub use look_up::resolve;
 pub use query::Query;
 pub use reply::{Answer, Change, Reply};

@@ -1,6 +1,6 @@
 ghost use Rattle.std.specs.Prelude.{◌≡◌};
-ghost use Rattle.dt_scratch.specs.Among.{is_more_specific_at, IsTransitive};
-ghost use Rattle.dt_scratch.specs.Resolve.{are_below};
+ghost use Rattle.dt_scratch.specs.Among.{IsTransitive};
+ghost use Rattle.dt_scratch.specs.Resolve.{are_below, is_more_specific_at};
 
 use dt_graph::{ClassGraph, ClassNo, below_is_an_order};
 
