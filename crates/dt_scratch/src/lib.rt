@@ -17,8 +17,12 @@ pub use query::Query;
 pub use reply::{Answer, Change, Reply};
 
 #[cfg(test)]
+mod chance;
+#[cfg(test)]
 mod example;
 #[cfg(test)]
 mod second_look_up;
+#[cfg(test)]
+mod tally;
 #[cfg(test)]
 mod tests;
