@@ -1,10 +1,9 @@
 -- A batch against its edits made one by one.
-use Rattle.std.proofs.Common.{◌≡◌, ℕ, ◌+◌, List, [], ◌∷◌, ◌++◌, length, Ok, Err, Result, refl, sym, ap, ◌∙◌, arith}
+use Rattle.std.proofs.Common.{◌≡◌, ℕ, ◌+◌, List, [], ◌∷◌, ◌++◌, length, Ok, Err, refl, sym, ap, ◌∙◌, arith}
 use Rattle.dt_definitions.specs.Program.{Program}
-use Rattle.dt_definitions.specs.Step.{step, step_from, and_then, Refused}
-use Rattle.dt_definitions.specs.Laws.{LeadsTo, StopsAt, BatchIsItsEdits, EditsAreABatch, BatchStopsAtItsEdit}
+use Rattle.dt_definitions.specs.Step.{step, step_from, step_batch, and_then, Refused}
+use Rattle.dt_definitions.specs.Laws.{LeadsTo, BatchIsItsEdits, EditsAreABatch, BatchStopsAtItsEdit, EditsStopABatch}
 use Rattle.dt_definitions.specs.declared.edit.Edit.{Edit}
-use Rattle.dt_definitions.specs.declared.why.Why.{Why}
 
 leads : (place : ℕ) (p q : Program) (edits : List Edit) → step_from place p edits ≡ Ok q → LeadsTo p edits q
 leads place p q [] h = cc
@@ -61,6 +60,34 @@ stops place p (edit ∷ edits) refused h =
           }
     ] refl h
 
+-- the steps after those that were accepted
+pub goes_on : (place : ℕ) (p q : Program) (edits more : List Edit) → step_from place p edits ≡ Ok q
+    → step_from place p (edits ++ more) ≡ step_from (length edits + place) q more
+goes_on place p q [] more h = let same : p ≡ q = cc in rw same (ap (λ n. step_from n q more) (omega arith))
+goes_on place p q (edit ∷ edits) more h =
+    let rest : (next : Program) → step_from (place + 1) next edits ≡ Ok q
+    → step_from (place + 1) next (edits ++ more) ≡ step_from (length edits + (place + 1)) q more =
+    λ next e. goes_on (place + 1) next q edits more e in
+    elim (step p edit) as (λ s. and_then s place (λ next. step_from (place + 1) next edits) ≡ Ok q
+    → and_then s place (λ next. step_from (place + 1) next (edits ++ more)) ≡ step_from (length (edit ∷ edits) + place) q more) [
+      | (Ok next) ↦ λ e. rest next e ∙ ap (λ n. step_from n q more) (omega arith)
+      | (Err why) ↦ λ e. absurd cc
+    ] h
+
+-- a refusal stands, whatever edits come after
+pub stays_refused : (place : ℕ) (p : Program) (edits more : List Edit) (refused : Refused) → step_from place p edits ≡ Err refused
+    → step_from place p (edits ++ more) ≡ Err refused
+stays_refused place p [] more refused h = absurd cc
+stays_refused place p (edit ∷ edits) more refused h =
+    let rest : (next : Program) → step_from (place + 1) next edits ≡ Err refused
+    → step_from (place + 1) next (edits ++ more) ≡ Err refused =
+    λ next e. stays_refused (place + 1) next edits more refused e in
+    elim (step p edit) as (λ s. and_then s place (λ next. step_from (place + 1) next edits) ≡ Err refused
+    → and_then s place (λ next. step_from (place + 1) next (edits ++ more)) ≡ Err refused) [
+      | (Ok next) ↦ λ e. rest next e
+      | (Err why) ↦ λ e. e
+    ] h
+
 pub batch_is_its_edits : BatchIsItsEdits
 batch_is_its_edits p q edits h = leads 1 p q edits h
 
@@ -79,3 +106,10 @@ batch_stops p edits refused h =
       accepted = s.accepted;
       cause = s.cause;
     }
+
+pub edits_stop_a_batch : EditsStopABatch
+edits_stop_a_batch p edits refused s =
+    let steps = goes_on 1 p s.reached s.before (s.edit ∷ s.later) (follows 1 p s.reached s.before s.accepted) in
+    let stop = ap (λ r. and_then r (length s.before + 1) (λ q. step_from (length s.before + 1 + 1) q s.later)) s.cause in
+    let told : record { at = length s.before + 1; why = refused.why } ≡ refused = rw (sym s.place) refl in
+    ap (step_batch p) s.whole ∙ steps ∙ stop ∙ ap Err told

@@ -1,5 +1,5 @@
 -- What definitions do to bodies, and that they may be made in either order.
-use Rattle.std.proofs.Common.{◌≡◌, ℕ, true, false, cond, not, List, [], ◌∷◌, filter, Option, None, Some, Ok, Err, IsTrue, refl, sym, ap, subst, ◌∙◌, arith}
+use Rattle.std.proofs.Common.{◌≡◌, ℕ, true, false, cond, not, List, [], ◌∷◌, filter, None, Some, Ok, IsTrue, refl, sym, ap, ◌∙◌, arith}
 use Rattle.std.proofs.lemmas.Bool.Decides.{nat_tests}
 use Rattle.dt_graph.specs.Refusal.{ok_unless}
 use Rattle.dt_definitions.specs.Program.{Definition, Program, is_definition, is_definition_before, place_definition, body_of}
@@ -7,8 +7,8 @@ use Rattle.dt_definitions.specs.Step.{refusal, effect, step, with_definitions}
 use Rattle.dt_definitions.specs.Laws.{the, LeadsTo, DefineSetsOneBody, UndefineClearsOneBody, DefinesCommute}
 use Rattle.dt_definitions.specs.declared.edit.Edit.{Edit}
 use Rattle.dt_definitions.specs.declared.edit.Edit.TheVariants.{Define, Undefine}
-use Rattle.dt_definitions.proofs.ClassOrder.{same-equal, same-sym}
-use Rattle.dt_definitions.proofs.DefinitionOrder.{is_definition-equal, is_definition-refl, def_before-trans, def_before-asym, def_before-differs, def_before-total}
+use Rattle.dt_definitions.proofs.ClassOrder.{same-sym}
+use Rattle.dt_definitions.proofs.DefinitionOrder.{is_definition-equal, def_before-trans, def_before-asym, def_before-differs, def_before-total}
 
 -- an edit that is accepted has its effect
 pub has_effect : (p q : Program) (edit : Edit) → step p edit ≡ Ok q → q ≡ effect p edit

@@ -13,6 +13,9 @@ pub mod DefinitionUndo
 pub mod UndoSteps
 pub mod Undoing
 pub mod BatchLaws
+pub mod AnswerLaws
+pub mod MemoryLaws
 pub mod DefinitionLaws
 pub mod Histories
 pub mod LawfulExamples
+pub mod AnswerExamples

@@ -1,5 +1,5 @@
 -- Laws of edits and batches, which follow from their definitions.
-use Rattle.std.specs.Prelude.{◌≡◌, ℕ, ◌+◌, false, if◌then◌else◌, List, [], ◌∷◌, ◌++◌, length, Option, None, Some, Ok, Err}
+use Rattle.std.specs.Prelude.{◌≡◌, ℕ, ◌+◌, false, if◌then◌else◌, List, [], ◌∷◌, ◌++◌, length, None, Some, Ok, Err}
 use Rattle.dt_definitions.specs.Program.{Definition, Program, is_definition, body_of}
 use Rattle.dt_definitions.specs.Lawful.{Lawful, IsInRange}
 use Rattle.dt_definitions.specs.Step.{step, step_batch, after, Refused}
@@ -29,9 +29,12 @@ BatchIsItsEdits = (p q : Program) (edits : List Edit) → step_batch p edits ≡
 abbrev pub EditsAreABatch : Type 0
 EditsAreABatch = (p q : Program) (edits : List Edit) → LeadsTo p edits q → step_batch p edits ≡ Ok q
 
--- a batch is refused at the first of its edits that is refused by itself, for the same cause
+-- a batch is refused exactly at the first of its edits that is refused by itself, for the same cause
 abbrev pub BatchStopsAtItsEdit : Type 0
 BatchStopsAtItsEdit = (p : Program) (edits : List Edit) (refused : Refused) → step_batch p edits ≡ Err refused → StopsAt p edits refused
+
+abbrev pub EditsStopABatch : Type 0
+EditsStopABatch = (p : Program) (edits : List Edit) (refused : Refused) → StopsAt p edits refused → step_batch p edits ≡ Err refused
 
 abbrev pub the : ℕ → List ℕ → ℕ → Definition
 the selector classes body = record { selector = selector; classes = classes; body = body }

@@ -1,12 +1,16 @@
+pub mod AnswerExamples
+pub mod AnswerLaws
 pub mod DefinitionRows
 pub mod Examples
 pub mod Lawful
 pub mod Laws
 pub mod Memory
+pub mod MemoryLaws
 pub mod OrderExamples
 pub mod Parts
 pub mod Place
 pub mod Program
+pub mod RefusalExamples
 pub mod Step
 pub mod TupleForm
 pub mod Undo

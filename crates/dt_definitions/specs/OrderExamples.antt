@@ -1,11 +1,10 @@
 -- Worked examples of places, of the order of definitions, and of when an edit takes memory.
-use Rattle.std.specs.Prelude.{◌≡◌, ℕ, Bool, true, false, List, [], ◌∷◌, Option, None, Some, Ok, Err, refl}
+use Rattle.std.specs.Prelude.{◌≡◌, ℕ, true, false, List, [], ◌∷◌, None, Some, Err, refl}
 use Rattle.dt_definitions.specs.Program.{Definition, Program, empty_program, arity_of, same_classes, are_classes_before, is_definition, is_definition_before, place_definition, definitions_of, body_of}
 use Rattle.dt_definitions.specs.Place.{at_place}
-use Rattle.dt_definitions.specs.Step.{is_named, is_defined, has_definition, arity_differs, refusal, effect, step, step_from, stepped, after, fault_at, why_of}
+use Rattle.dt_definitions.specs.Step.{is_named, is_defined, has_definition, arity_differs, refusal, effect, step_from, stepped, after, fault_at, why_of}
 use Rattle.dt_definitions.specs.Memory.{may_want_memory, batch_may_want_memory}
 use Rattle.dt_graph.specs.declared.graph_fault.GraphFault.TheVariants as fault
-use Rattle.dt_definitions.specs.declared.edit.Edit.{Edit}
 use Rattle.dt_definitions.specs.declared.edit.Edit.TheVariants as edit
 use Rattle.dt_definitions.specs.declared.why.Why.TheVariants as why
 use Rattle.dt_definitions.specs.declared.why.ApplyFault.TheVariants as apply_fault

@@ -3,7 +3,7 @@ ghost use Rattle.dt_definitions.specs.declared.edit.Edit.{Edit};
 ghost use Rattle.dt_definitions.specs.Program.{Program, empty_program};
 ghost use Rattle.dt_definitions.specs.Lawful.{Lawful, IsInRange};
 ghost use Rattle.dt_definitions.specs.Step.{step};
-ghost use Rattle.dt_definitions.specs.Laws.{BatchIsItsEdits, EditsAreABatch, BatchStopsAtItsEdit, DefineSetsOneBody, UndefineClearsOneBody, DefinesCommute, HistoriesAreLawful};
+ghost use Rattle.dt_definitions.specs.Laws.{BatchIsItsEdits, EditsAreABatch, BatchStopsAtItsEdit, EditsStopABatch, DefineSetsOneBody, UndefineClearsOneBody, DefinesCommute, HistoriesAreLawful};
 
 /// The empty program is lawful, and the step of an edit on a lawful program, where it isn't refused, leaves a lawful
 /// one. It does nothing: a caller whose reasoning needs this calls it.
@@ -22,6 +22,7 @@ pub fn batches_are_their_edits()
     ensures accepted { BatchIsItsEdits }
     ensures one_by_one { EditsAreABatch }
     ensures refused { BatchStopsAtItsEdit }
+    ensures stopped { EditsStopABatch }
 {}
 
 /// A definition that is made or goes changes the body at its own selector and classes alone, so definitions at

@@ -1,6 +1,7 @@
 //! Programs of classes, selectors and definitions, and the edits that change them.
 #![tactic(auto)]
 
+mod answer_law;
 mod batch;
 mod defined;
 mod definition_table;
@@ -15,6 +16,10 @@ mod row;
 mod tuple;
 mod why;
 
+pub use answer_law::{
+    batches_have_one_answer, batches_make_histories, edits_have_one_answer,
+    new_definitions_take_memory,
+};
 pub use batch::Batch;
 pub use defined::Defined;
 pub use dt_graph::{CLASSES, ClassGraph, ClassNo, NoMemory, PARENTS};

@@ -1,0 +1,37 @@
+-- Laws of want of memory: which edits take it, and that the clauses of memory say no more and no less.
+use Rattle.std.specs.Prelude.{◌≡◌, ◌+◌, Bool, false, IsTrue, length, Ok, Err}
+use Rattle.dt_definitions.specs.Program.{Program}
+use Rattle.dt_definitions.specs.Lawful.{Lawful}
+use Rattle.dt_definitions.specs.Step.{step}
+use Rattle.dt_definitions.specs.Memory.{may_want_memory, NoMemoryOnlyWhere, BatchNoMemoryOnlyWhere}
+use Rattle.dt_definitions.specs.AnswerLaws.{Answer, BatchAnswer, IsDecided, IsDecidedBatch}
+use Rattle.dt_definitions.specs.declared.edit.Edit.{Edit}
+use Rattle.dt_definitions.specs.declared.why.Why.{Why}
+
+-- an edit that is accepted takes memory where it leaves one definition more
+abbrev pub OneMoreTakesMemory : Type 0
+OneMoreTakesMemory = (p q : Program) (edit : Edit) → Lawful p → step p edit ≡ Ok q
+    → length q.definitions ≡ length p.definitions + 1 → IsTrue (may_want_memory p edit)
+
+-- and nowhere else
+abbrev pub MemoryIsForOneMore : Type 0
+MemoryIsForOneMore = (p q : Program) (edit : Edit) → step p edit ≡ Ok q → IsTrue (may_want_memory p edit)
+    → length q.definitions ≡ length p.definitions + 1
+
+-- an edit that is refused takes none
+abbrev pub RefusedEditsTakeNone : Type 0
+RefusedEditsTakeNone = (p : Program) (edit : Edit) (why : Why) → step p edit ≡ Err why → may_want_memory p edit ≡ false
+
+-- where the test fails, the answer isn't want of memory
+abbrev pub WithoutTheTestDecided : Type 0
+WithoutTheTestDecided = (answer : Answer) → NoMemoryOnlyWhere false answer → IsDecided answer
+
+abbrev pub WithoutTheTestDecidedBatch : Type 0
+WithoutTheTestDecidedBatch = (answer : BatchAnswer) → BatchNoMemoryOnlyWhere false answer → IsDecidedBatch answer
+
+-- an answer that isn't want of memory is free of the test
+abbrev pub DecidedIsFree : Type 0
+DecidedIsFree = (test : Bool) (answer : Answer) → IsDecided answer → NoMemoryOnlyWhere test answer
+
+abbrev pub DecidedBatchIsFree : Type 0
+DecidedBatchIsFree = (test : Bool) (answer : BatchAnswer) → IsDecidedBatch answer → BatchNoMemoryOnlyWhere test answer
