@@ -6,8 +6,9 @@ use Rattle.dt_definitions.specs.Program.{Definition, is_definition, is_definitio
 use Rattle.dt_definitions.specs.Lawful.{AscendingDefinitions}
 use Rattle.dt_definitions.specs.DefinitionRows.{Definitions, HasRoomFor}
 use Rattle.dt_definitions.specs.Undo.{restore_definition}
-use Rattle.dt_definitions.proofs.DefinitionOrder.{is_definition-refl, is_definition-equal, StandsFirst, stands_first-trans, ascending-tail, ascending-first, def_before-differs}
+use Rattle.dt_definitions.proofs.DefinitionOrder.{is_definition-refl, is_definition-equal, StandsFirst, stands_first-trans, ascending-tail, ascending-first}
 use Rattle.dt_definitions.proofs.DefinitionCounts.{filter-absent, stands_first-absent}
+use Rattle.dt_definitions.proofs.Placing.{is_first, place-first, place-over, place-behind}
 
 -- a definition that is there needs no room
 pub has_room : (definitions : Definitions) (s : ℕ) (cs : List ℕ)
@@ -62,20 +63,6 @@ none_before : (s : ℕ) (cs : List ℕ) (ds : List Definition)
 none_before s cs [] h = refl
 none_before s cs (e ∷ ds) h = let r = none_before s cs ds in grind arith
 
-place_same : (d : Definition) (e : Definition) (ds : List Definition)
-    → IsTrue (is_definition d.selector d.classes e) → place_definition d (e ∷ ds) ≡ d ∷ ds
-place_same d e ds same =
-    let n = def_before-differs d e in grind arith
-
-place_behind : (d : Definition) (e : Definition) (ds : List Definition)
-    → is_definition_before d e ≡ false → is_definition d.selector d.classes e ≡ false
-    → place_definition d (e ∷ ds) ≡ e ∷ place_definition d ds
-place_behind d e ds b n = rw (b, n) refl
-
-place_first : (d : Definition) (ds : List Definition) → StandsFirst d ds → place_definition d ds ≡ d ∷ ds
-place_first d [] h = refl
-place_first d (e ∷ ds) h = rw h.0 refl
-
 -- the definition with the body that the list has there
 module _ (s : ℕ) (cs : List ℕ) (body : ℕ) where
   abbrev the : Definition
@@ -94,10 +81,10 @@ module _ (s : ℕ) (cs : List ℕ) (body : ℕ) where
         | false ↦ λ b. elim (is_definition s cs e) as (λ t. is_definition s cs e ≡ t
             → place_definition the (cond t (d ∷ ds) (e ∷ place_definition d ds)) ≡ e ∷ ds) [
               | true ↦ λ same.
-                  place_same the d ds (is_definition-refl d)
+                  place-over the d ds (is_definition-refl d)
                   ∙ ap (λ f. f ∷ ds) (is_the_one s cs body e same (rw same at h))
               | false ↦ λ other.
-                  place_behind the e (place_definition d ds) b other
+                  place-behind the e (place_definition d ds) b other
                   ∙ ap (λ es. e ∷ es) (put_back_replaced new ds (ascending-tail e ds u) (rw other at h))
             ] refl
       ] refl
@@ -112,7 +99,7 @@ module _ (s : ℕ) (cs : List ℕ) (body : ℕ) where
             let one = is_the_one s cs body e same (rw same at h) in
             let first : StandsFirst the ds = subst (λ d. StandsFirst d ds) (sym one) (ascending-first e ds u) in
             let stays = filter-absent (is_definition s cs) ds (stands_first-absent the ds first) in
-            ap (place_definition the) stays ∙ place_first the ds first ∙ ap (λ f. f ∷ ds) one
+            ap (place_definition the) stays ∙ place-first the ds (is_first the ds first) ∙ ap (λ f. f ∷ ds) one
         | false ↦ λ other.
             let later : is_definition_before the e ≡ false =
             elim (is_definition_before the e) as (λ t. is_definition_before the e ≡ t → is_definition_before the e ≡ false) [
@@ -121,7 +108,7 @@ module _ (s : ℕ) (cs : List ℕ) (body : ℕ) where
                   absurd (let n = none_before s cs (e ∷ ds) absent in cc)
               | false ↦ λ b. b
             ] refl in
-            place_behind the e (filter (λ d. not (is_definition s cs d)) ds) later other
+            place-behind the e (filter (λ d. not (is_definition s cs d)) ds) later other
             ∙ ap (λ es. e ∷ es) (put_back_removed ds (ascending-tail e ds u) (rw other at h))
       ] refl
 

@@ -5,13 +5,14 @@ use Rattle.std.proofs.lemmas.Bool.{eq-eqb, eqb-true, ne_eqb, false≢true}
 use Rattle.std.proofs.lemmas.Bool.Decides.{nat_tests}
 use Rattle.std.proofs.lemmas.List.Folds.{list_any_at}
 use Rattle.std.proofs.lemmas.List.Elements.{All-nil, All-cons, All-head, All-tail, All-filter, All-weaker, filter_passes}
-use Rattle.dt_graph.specs.Refusal.{cause_if, ok_unless}
+use Rattle.dt_graph.specs.Refusal.{cause_if}
 use Rattle.dt_graph.specs.Graph.{Graph, empty_graph, has_number, is_live, place_number}
 use Rattle.dt_graph.specs.GraphChange.{add_cause, add_effect, drop_cause, drop_effect, link_cause, link_effect, unlink_cause, unlink_effect, first_unknown}
 use Rattle.dt_graph.specs.Lawful.{LawfulGraph}
 use Rattle.dt_graph.specs.declared.limits.TheConstants.{CLASSES}
 use Rattle.dt_selectors.specs.Selectors.{Selector, arity_in, has_selector, place_selector, without_selector}
 use Rattle.dt_selectors.specs.Lawful.{LawfulSelector, LawfulSelectors}
+use Rattle.dt_selectors.specs.Laws.{AddingSetsOneArity, DroppingUnsetsOneArity}
 use Rattle.dt_definitions.specs.Program.{Definition, Program, empty_program, arity_of, definitions_of, is_definition, is_definition_before, place_definition}
 use Rattle.dt_definitions.specs.Lawful.{LawfulDefinition, Lawful, IsInRange}
 use Rattle.dt_definitions.specs.Step.{why_of, is_named, is_defined, arity_differs, refusal, effect, step, with_graph, with_selectors, with_definitions, Applies}
@@ -20,7 +21,7 @@ use Rattle.dt_definitions.specs.declared.edit.Edit.TheVariants.{AddClass, DropCl
 use Rattle.dt_definitions.specs.declared.why.Why.{Why}
 use Rattle.dt_definitions.specs.declared.why.Why.TheVariants as why
 use Rattle.dt_definitions.specs.declared.why.ApplyFault.{ApplyFault}
-use Rattle.dt_definitions.specs.declared.why.ApplyFault.TheVariants as apply_fault
+use Rattle.dt_definitions.proofs.AnswerLaws.{ok_has_no_cause, ok_alone_changes}
 use Rattle.dt_definitions.proofs.DefinitionOrder.{place-ascends, filter-ascends}
 use Rattle.dt_definitions.proofs.Steps.{NoCause, no_cause, not_caused, none_mapped, few-place, few-filter, may_define}
 
@@ -99,16 +100,6 @@ live-filtered : (class n : ℕ) (ns : List ℕ) → (n ≡ class → ⊥) → Is
 live-filtered class n [] ne h = absurd (false≢true h)
 live-filtered class n (m ∷ ns) ne h = let r = live-filtered class n ns ne in grind (arith, nat_tests)
 
--- what keeps its arity
-arity-placed : (new : Selector) (s : ℕ) (ss : List Selector) → (s ≡ new.number → ⊥)
-    → arity_in (place_selector new ss) s ≡ arity_in ss s
-arity-placed new s [] ne = rw (ne_eqb new.number s (λ e. ne (sym e))) refl
-arity-placed new s (t ∷ ss) ne = let r = arity-placed new s ss ne in grind (arith, nat_tests)
-
-arity-without : (old s : ℕ) (ss : List Selector) → (s ≡ old → ⊥) → arity_in (without_selector ss old) s ≡ arity_in ss s
-arity-without old s [] ne = refl
-arity-without old s (t ∷ ss) ne = let r = arity-without old s ss ne in grind (arith, nat_tests)
-
 -- classes of which none is unknown are live
 all_live : (g : Graph) (classes : List ℕ) → first_unknown g classes ≡ None → All (λ class. IsTrue (is_live g class)) classes
 all_live g [] h = All-nil (λ class. IsTrue (is_live g class))
@@ -129,7 +120,8 @@ module _ (graph_add : (g : Graph) (class : ℕ) (parents : List ℕ) → LawfulG
     (graph_link : (g : Graph) (class parent : ℕ) → LawfulGraph g → link_cause g class parent ≡ None → LawfulGraph (link_effect g class parent))
     (graph_unlink : (g : Graph) (class parent : ℕ) → LawfulGraph g → unlink_cause g class parent ≡ None → LawfulGraph (unlink_effect g class parent))
     (selector_add : (ss : List Selector) (s : Selector) → LawfulSelectors ss → LawfulSelector s → LawfulSelectors (place_selector s ss))
-    (selector_drop : (ss : List Selector) (s : ℕ) → LawfulSelectors ss → LawfulSelectors (without_selector ss s)) where
+    (selector_drop : (ss : List Selector) (s : ℕ) → LawfulSelectors ss → LawfulSelectors (without_selector ss s))
+    (arity_added : AddingSetsOneArity) (arity_dropped : DroppingUnsetsOneArity) where
   effect-lawful : (p : Program) (edit : Edit) → Lawful p → IsInRange edit → None ≡ refusal p edit → Lawful (effect p edit)
   effect-lawful p (AddClass class parents) l r h =
       graph_changed p (add_effect p.graph class parents) l
@@ -155,15 +147,17 @@ module _ (graph_add : (g : Graph) (class : ℕ) (parents : List ℕ) → LawfulG
       let new : Selector = record { number = selector; arity = arity } in
       let absent = not_caused (has_selector p.selectors selector) why.SelectorExists (sym h) in
       selectors_changed p (place_selector new p.selectors) l (selector_add p.selectors new l.selectors r)
-      (λ s _ known. arity-placed new s p.selectors
-      (λ e. false≢true (sym absent ∙ subst (λ k. has_selector p.selectors k ≡ true) e known)))
+      (λ s _ known.
+      let other = ne_eqb selector s (λ e. false≢true (sym absent ∙ subst (λ k. has_selector p.selectors k ≡ true) (sym e) known)) in
+      arity_added p.selectors new s ∙ rw other refl)
   effect-lawful p (DropSelector selector) l r h =
       let causes : List (Option Why) = cause_if (not (has_selector p.selectors selector)) why.SelectorUnknown ∷ cause_if (is_defined p selector) why.HasDefinitions ∷ [] in
       let n : NoCause causes = no_cause causes h in
       let undefined = not_caused (is_defined p selector) why.HasDefinitions n.1.0 in
       selectors_changed p (without_selector p.selectors selector) l (selector_drop p.selectors selector l.selectors)
-      (λ s defined _. arity-without selector s p.selectors
-      (λ e. false≢true (sym undefined ∙ subst (λ k. is_defined p k ≡ true) e defined)))
+      (λ s defined _.
+      let other = ne_eqb selector s (λ e. false≢true (sym undefined ∙ subst (λ k. is_defined p k ≡ true) (sym e) defined)) in
+      arity_dropped p.selectors selector s ∙ rw other refl)
   effect-lawful p (Define selector classes body) l r h =
       let d : Definition = record { selector = selector; classes = classes; body = body } in
       let ds = place_definition d p.definitions in
@@ -191,10 +185,8 @@ module _ (graph_add : (g : Graph) (class : ℕ) (parents : List ℕ) → LawfulG
 
   pub step-lawful : (old : Program) (edit : Edit) (new : Program) → Lawful old → IsInRange edit → step old edit ≡ Ok new → Lawful new
   step-lawful old edit new l r h =
-      elim (refusal old edit) as (λ o. refusal old edit ≡ o → ok_unless o (effect old edit) ≡ Ok new → Lawful new) [
-        | None ↦ λ none e. let same : effect old edit ≡ new = cc in subst Lawful same (effect-lawful old edit l r (sym none))
-        | (Some cause) ↦ λ _ e. absurd cc
-      ] refl h
+      let made = ok_has_no_cause old new edit h in
+      subst Lawful (sym made.1) (effect-lawful old edit l r (sym made.0))
 
 pub empty-lawful : LawfulGraph empty_graph → LawfulSelectors [] → Lawful empty_program
 empty-lawful g s = record {
@@ -210,8 +202,7 @@ pub answer-lawful : ((old : Program) (edit : Edit) (new : Program) → Lawful ol
     → (old new : Program) (edit : Edit) (answer : Result (Unit {0}) ApplyFault)
     → Lawful old → IsInRange edit → Applies old edit new answer → Lawful new
 answer-lawful law old new edit (Ok _) l r h = law old edit new l r h
-answer-lawful law old new edit (Err (apply_fault.Refused cause)) l r h = subst Lawful (sym h.1) l
-answer-lawful law old new edit (Err apply_fault.NoMemory) l r h = subst Lawful (sym h) l
+answer-lawful law old new edit (Err fault) l r h = subst Lawful (sym (ok_alone_changes old new edit fault h)) l
 
 -- the definitions of one selector fit it
 pub definitions-fit : (p : Program) → Lawful p → (s : ℕ)

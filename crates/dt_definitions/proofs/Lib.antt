@@ -2,6 +2,7 @@ pub mod ClassOrder
 pub mod RowOrder
 pub mod RowChanges
 pub mod DefinitionOrder
+pub mod Placing
 pub mod DefinedOnce
 pub mod DefinitionCounts
 pub mod Rows

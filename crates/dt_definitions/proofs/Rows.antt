@@ -9,6 +9,7 @@ use Rattle.dt_definitions.specs.Program.{Definition, is_definition, place_defini
 use Rattle.dt_definitions.specs.DefinitionRows.{DefinitionRow, with_selector, definitions_from, NoneDefined}
 use Rattle.dt_definitions.specs.declared.defined.Defined.{Defined}
 use Rattle.dt_definitions.proofs.DefinitionOrder.{StandsFirst}
+use Rattle.dt_definitions.proofs.Placing.{is_first, place-first}
 
 -- rows with no definition have none together
 pub none_from_empty : (k : ℕ) (rows : List DefinitionRow) → NoneDefined rows → definitions_from k rows ≡ []
@@ -61,12 +62,8 @@ find_of s p [] h = refl
 find_of s p (d ∷ ds) h = let r = find_of s p ds h in let q = h d in grind (arith, nat_tests)
 
 -- placing in front of what stands behind, and behind what stands in front
-place_before : (d : Definition) (ds : List Definition) → StandsFirst d ds → place_definition d ds ≡ d ∷ ds
-place_before d [] h = refl
-place_before d (e ∷ ds) h = rw h.0 refl
-
 place_left : (d : Definition) (xs ys : List Definition) → StandsFirst d ys → place_definition d (xs ++ ys) ≡ place_definition d xs ++ ys
-place_left d [] ys h = place_before d ys h
+place_left d [] ys h = place-first d ys (is_first d ys h)
 place_left d (e ∷ xs) ys h = let r = place_left d xs ys h in grind arith
 
 place_right : (d : Definition) (k : ℕ) (row : List Defined) (ys : List Definition)

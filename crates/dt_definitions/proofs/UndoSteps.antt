@@ -1,6 +1,5 @@
 -- What is kept before an edit undoes it.
-use Rattle.std.proofs.Common.{◌≡◌, ℕ, List, None, Some, Ok, Err, Result, OnOk, refl, sym, ap, subst}
-use Rattle.dt_graph.specs.Refusal.{ok_unless}
+use Rattle.std.proofs.Common.{◌≡◌, ℕ, List, None, Ok, Err, Result, OnOk, sym, ap, subst}
 use Rattle.dt_graph.specs.Graph.{Graph, is_live}
 use Rattle.dt_graph.specs.Parents.{parents_of}
 use Rattle.dt_graph.specs.GraphChange.{add_effect, drop_effect, link_effect, unlink_effect}
@@ -15,6 +14,7 @@ use Rattle.dt_definitions.specs.declared.edit.Edit.{Edit}
 use Rattle.dt_definitions.specs.declared.edit.Edit.TheVariants.{AddClass, DropClass, Link, Unlink, AddSelector, DropSelector, Define, Undefine}
 use Rattle.dt_definitions.specs.declared.why.Why.TheVariants as why
 use Rattle.dt_definitions.specs.declared.why.ApplyFault.{ApplyFault}
+use Rattle.dt_definitions.proofs.AnswerLaws.{ok_has_no_cause}
 use Rattle.dt_definitions.proofs.Steps.{not_caused}
 use Rattle.dt_definitions.proofs.DefinitionUndo.{define_undone, undefine_undone}
 use Rattle.dt_definitions.proofs.SelectorUndo.{add_undone, drop_undone}
@@ -45,12 +45,8 @@ module _ (graph_add : (g : Graph) (class : ℕ) (parents : List ℕ) → drop_ef
 
   pub step-undone : (old new : Program) (edit : Edit) → Lawful old → step old edit ≡ Ok new → restored new (kept_of old edit) ≡ old
   step-undone old new edit l h =
-      elim (refusal old edit) as (λ o. refusal old edit ≡ o → ok_unless o (effect old edit) ≡ Ok new → restored new (kept_of old edit) ≡ old) [
-        | None ↦ λ none e.
-            let same : effect old edit ≡ new = cc in
-            subst (λ q. restored q (kept_of old edit) ≡ old) same (effect-undone old edit l (sym none))
-        | (Some cause) ↦ λ _ e. absurd cc
-      ] refl h
+      let made = ok_has_no_cause old new edit h in
+      subst (λ q. restored q (kept_of old edit) ≡ old) (sym made.1) (effect-undone old edit l (sym made.0))
 
   pub answer-undone : (old new : Program) (edit : Edit) (answer : Result (Unit {0}) ApplyFault)
       → Lawful old → Applies old edit new answer → OnOk answer (restored new (kept_of old edit) ≡ old)

@@ -1,16 +1,14 @@
 -- Undoing all that was kept, and the steps of a batch that keep it.
-use Rattle.std.proofs.Common.{◌≡◌, ℕ, ◌+◌, ◌<◌, List, [], ◌∷◌, ◌++◌, length, drop, get_or, reverse, Ok, Err, Result, sym, ap, subst, ◌∙◌, arith}
+use Rattle.std.proofs.Common.{◌≡◌, ℕ, ◌+◌, ◌<◌, List, [], ◌∷◌, ◌++◌, length, drop, get_or, reverse, Ok, Result, sym, ap, subst, ◌∙◌, arith}
 use Rattle.std.proofs.lemmas.List.{reverse-append, drop_more}
 use Rattle.dt_definitions.specs.Program.{Program}
 use Rattle.dt_definitions.specs.Lawful.{Lawful}
 use Rattle.dt_definitions.specs.DefinitionRows.{RoomStays}
-use Rattle.dt_definitions.specs.Step.{step, step_from, Applies, and_then, Refused}
+use Rattle.dt_definitions.specs.Step.{step, step_from, and_then, Refused}
 use Rattle.dt_definitions.specs.Undo.{restored, HasRoom, CanUndo}
 use Rattle.dt_definitions.specs.declared.edit.Edit.{Edit}
 use Rattle.dt_definitions.specs.declared.kept.Kept.{Kept}
 use Rattle.dt_definitions.specs.declared.kept.Kept.TheVariants as kept
-use Rattle.dt_definitions.specs.declared.why.ApplyFault.{ApplyFault}
-use Rattle.dt_definitions.specs.declared.why.ApplyFault.TheVariants as apply_fault
 
 pub reverse_push : (log : List Kept) (last : Kept) → reverse (log ++ last ∷ []) ≡ last ∷ reverse log
 reverse_push log last = reverse-append log (last ∷ [])
@@ -43,7 +41,3 @@ rest_applied edits i edit old new whole l r h rest =
     let d : drop i edits ≡ edit ∷ drop (i + 1) edits = drop_more edits i edit l ∙ ap (λ e. e ∷ drop (i + 1) edits) (sym r) in
     let rest' = rw d at rest in
     sym (ap (λ s. and_then s (i + 1) (λ q. step_from (i + 1 + 1) q (drop (i + 1) edits))) h) ∙ rest'
-
-pub unchanged : (old new : Program) (edit : Edit) (fault : ApplyFault) → Applies old edit new (Err fault) → new ≡ old
-unchanged old new edit (apply_fault.Refused why) h = h.1
-unchanged old new edit apply_fault.NoMemory h = h

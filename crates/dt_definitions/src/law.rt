@@ -14,6 +14,7 @@ pub fn steps_keep_law()
 {
     dt_graph::changes_keep_law();
     dt_selectors::changes_keep_law();
+    dt_selectors::changes_touch_one_selector();
 }
 
 /// A batch is accepted exactly where its edits are, made one by one; and it is refused at the first of them that is

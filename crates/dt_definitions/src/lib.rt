@@ -2,7 +2,9 @@
 #![tactic(auto)]
 
 mod answer_law;
+mod apply_batch;
 mod batch;
+mod causes;
 mod defined;
 mod definition_table;
 mod edit;
@@ -14,6 +16,7 @@ mod parts;
 mod program;
 mod row;
 mod tuple;
+mod undo;
 mod why;
 
 pub use answer_law::{

@@ -3,14 +3,15 @@ use Rattle.std.proofs.lemmas.List.{length_push}
 use Rattle.dt_definitions.specs.Parts.{program_of}
 use Rattle.dt_definitions.specs.Step.{step_batch}
 use Rattle.dt_definitions.specs.Undo.{CanUndo, undone, restored, HasRoom}
-use Rattle.dt_definitions.proofs.Undoing.{reverse_push, can_more, can_step, rest_applied, unchanged}
+use Rattle.dt_definitions.proofs.Undoing.{reverse_push, can_more, can_step, rest_applied}
+use Rattle.dt_definitions.proofs.AnswerLaws.{ok_alone_changes}
 use Rattle.dt_definitions.proofs.parts.Parts.apply_all.Goals as goal
 
 pub undo-requires-clause-can : goal.undo-requires-clause-can
 undo-requires-clause-can c =
     let log = reverse c.loop-index.kept.items in
     let rooms = c.apply.new.self.definitions.rooms in
-    let same = unchanged (program_of c.loop-index.self) (program_of c.apply.new.self) c.index-edits-index.result c.in-Err.fault c.in-Err.ensures.applies in
+    let same = ok_alone_changes (program_of c.loop-index.self) (program_of c.apply.new.self) c.index-edits-index.result c.in-Err.fault c.in-Err.ensures.applies in
     subst (λ p. CanUndo rooms p log) (sym same)
     (can_more log (program_of c.loop-index.self) c.loop-index.self.definitions.rooms rooms c.in-Err.ensures.room_stays c.loop-index.invariant.can)
 

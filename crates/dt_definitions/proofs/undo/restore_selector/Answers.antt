@@ -1,7 +1,7 @@
 use Rattle.std.proofs.Common.{◌≡◌, false, refl, sym, subst, ◌∙◌}
 use Rattle.dt_selectors.specs.Selectors.{has_selector}
 use Rattle.dt_definitions.proofs.SelectorUndo.{dropped_anyway, added_surely, absent_without}
-use Rattle.dt_definitions.proofs.parts.restore_selector.Goals as goal
+use Rattle.dt_definitions.proofs.undo.restore_selector.Goals as goal
 
 pub returns-in-Some : goal.returns-in-Some
 returns-in-Some c =
