@@ -9,17 +9,19 @@ use Rattle.dt_definitions.specs.declared.why.ApplyFault.TheVariants as apply_fau
 use Rattle.dt_definitions.specs.declared.why.BatchFault.{BatchFault}
 use Rattle.dt_definitions.specs.declared.why.BatchFault.TheVariants as batch_fault
 
--- what an edit is answered, and what a batch is
+-- what an edit is answered
 abbrev pub Answer : Type 0
 Answer = Result (Unit {0}) ApplyFault
 
+-- what a batch is answered
 abbrev pub BatchAnswer : Type 0
 BatchAnswer = Result (Unit {0}) BatchFault
 
--- the answer isn't want of memory
+-- the answer of an edit isn't want of memory
 abbrev pub IsDecided : Answer → Type 0
 IsDecided answer = answer ≡ Err apply_fault.NoMemory → ⊥
 
+-- the answer of a batch isn't want of memory
 abbrev pub IsDecidedBatch : BatchAnswer → Type 0
 IsDecidedBatch answer = answer ≡ Err batch_fault.NoMemory → ⊥
 
@@ -51,14 +53,17 @@ OkAloneChanges = (old new : Program) (edit : Edit) (fault : ApplyFault) → Appl
 
 -- ---- batches
 
+-- a batch has one answer and leaves one program, but for want of memory
 abbrev pub BatchesHaveOneAnswer : Type 0
 BatchesHaveOneAnswer = (old p q : Program) (edits : List Edit) (a b : BatchAnswer)
     → IsDecidedBatch a → IsDecidedBatch b → AppliesBatch old edits p a → AppliesBatch old edits q b → (a ≡ b) × (p ≡ q)
 
+-- and it has such an answer
 abbrev pub BatchesHaveAnAnswer : Type 0
 BatchesHaveAnAnswer = (old : Program) (edits : List Edit)
     → (new : Program) × (answer : BatchAnswer) × IsDecidedBatch answer × AppliesBatch old edits new answer
 
+-- at every other answer than Ok the program is as it was before the batch
 abbrev pub OkAloneChangesByBatch : Type 0
 OkAloneChangesByBatch = (old new : Program) (edits : List Edit) (fault : BatchFault)
     → AppliesBatch old edits new (Err fault) → new ≡ old

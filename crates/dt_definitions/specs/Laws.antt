@@ -22,20 +22,23 @@ pub record StopsAt (p : Program) (edits : List Edit) (refused : Refused) : Type 
   pub accepted : LeadsTo p before reached
   pub cause : step reached edit ≡ Err refused.why
 
--- a batch is accepted exactly where its edits are, made one by one, and to the same program
+-- where a batch is accepted its edits are, made one by one, and lead to the same program
 abbrev pub BatchIsItsEdits : Type 0
 BatchIsItsEdits = (p q : Program) (edits : List Edit) → step_batch p edits ≡ Ok q → LeadsTo p edits q
 
+-- and the other way round
 abbrev pub EditsAreABatch : Type 0
 EditsAreABatch = (p q : Program) (edits : List Edit) → LeadsTo p edits q → step_batch p edits ≡ Ok q
 
--- a batch is refused exactly at the first of its edits that is refused by itself, for the same cause
+-- a batch is refused at the first of its edits that is refused by itself, for the same cause
 abbrev pub BatchStopsAtItsEdit : Type 0
 BatchStopsAtItsEdit = (p : Program) (edits : List Edit) (refused : Refused) → step_batch p edits ≡ Err refused → StopsAt p edits refused
 
+-- and at such an edit it is refused
 abbrev pub EditsStopABatch : Type 0
 EditsStopABatch = (p : Program) (edits : List Edit) (refused : Refused) → StopsAt p edits refused → step_batch p edits ≡ Err refused
 
+-- the definition of the selector at these classes
 abbrev pub the : ℕ → List ℕ → ℕ → Definition
 the selector classes body = record { selector = selector; classes = classes; body = body }
 
@@ -63,6 +66,7 @@ abbrev pub AreInRange : List Edit → Type 0
 AreInRange [] = Unit {0}
 AreInRange (edit ∷ edits) = IsInRange edit × AreInRange edits
 
+-- so are those of all edits of all batches
 abbrev pub HistoryIsInRange : List (List Edit) → Type 0
 HistoryIsInRange [] = Unit {0}
 HistoryIsInRange (batch ∷ history) = AreInRange batch × HistoryIsInRange history

@@ -22,16 +22,18 @@ MemoryIsForOneMore = (p q : Program) (edit : Edit) → step p edit ≡ Ok q → 
 abbrev pub RefusedEditsTakeNone : Type 0
 RefusedEditsTakeNone = (p : Program) (edit : Edit) (why : Why) → step p edit ≡ Err why → may_want_memory p edit ≡ false
 
--- where the test fails, the answer isn't want of memory
+-- where the test fails, the answer of an edit isn't want of memory
 abbrev pub WithoutTheTestDecided : Type 0
 WithoutTheTestDecided = (answer : Answer) → NoMemoryOnlyWhere false answer → IsDecided answer
 
+-- and nor is that of a batch
 abbrev pub WithoutTheTestDecidedBatch : Type 0
 WithoutTheTestDecidedBatch = (answer : BatchAnswer) → BatchNoMemoryOnlyWhere false answer → IsDecidedBatch answer
 
--- an answer that isn't want of memory is free of the test
+-- an edit's answer that isn't want of memory is free of the test
 abbrev pub DecidedIsFree : Type 0
 DecidedIsFree = (test : Bool) (answer : Answer) → IsDecided answer → NoMemoryOnlyWhere test answer
 
+-- and so is a batch's
 abbrev pub DecidedBatchIsFree : Type 0
 DecidedBatchIsFree = (test : Bool) (answer : BatchAnswer) → IsDecidedBatch answer → BatchNoMemoryOnlyWhere test answer
