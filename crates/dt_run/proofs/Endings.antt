@@ -12,7 +12,7 @@ use Rattle.dt_run.specs.declared.status.Status.TheVariants.{Done, Usage, Script,
 use Rattle.dt_run.proofs.Short.{first_script_is_short}
 
 -- the bytes of a first script aren't those of none
-no_script : (bytes : List ℕ) (lines : List Line) → IsFirstScript bytes lines → IsNoScript bytes → ⊥
+pub no_script : (bytes : List ℕ) (lines : List Line) → IsFirstScript bytes lines → IsNoScript bytes → ⊥
 no_script bytes lines s (inl long) = omega (arith, first_script_is_short bytes lines s, long)
 no_script bytes lines s (inr none) = none lines s
 

@@ -1,11 +1,11 @@
 pub mod Appending
+pub mod Losing
 pub mod Parts
 pub mod Spelling
 pub mod Numbers
 pub mod Taking
 pub mod LinesRead
 pub mod NoScript
-pub mod Examples
 pub mod History
 pub mod Joined
 pub mod Outcomes
@@ -14,4 +14,7 @@ pub mod Endings
 pub mod OneOutcome
 pub mod FourRefusals
 pub mod FirstLaws
+pub mod OutsideLaws
+pub mod NoScriptLaws
+pub mod EndingLaws
 pub mod ThreeWords

@@ -92,10 +92,14 @@ module _ (bytes rest : List ℕ) (count : ℕ) (stage : Stage) (numbered : Numbe
       by [] follows = open_stage stage unended (in_order lines [] is follows.all)
       by (line ∷ more) follows = omega (arith, ap length (sym empty ∙ follows.spelled ∙ text-cons line more), length-append (spelling line) (10 ∷ text_of_lines more))
 
--- no bytes are the first script of two lists of lines
-pub same_script : (bytes : List ℕ) (a b : List Line) → IsFirstScript bytes a → IsFirstScript bytes b → a ≡ b
-same_script bytes a b is is' = by (goes_on b a [] is'.names is.names (sym is.spelled ∙ is'.spelled ∙ sym (append-nil (text_of_lines b))))
+-- the text of lines with names is that of no others
+pub same_lines_of_text : (a b : List Line) → IsTrue (list_all has_names a) → IsTrue (list_all has_names b) → text_of_lines a ≡ text_of_lines b → a ≡ b
+same_lines_of_text a b named named' e = by (goes_on b a [] named' named (e ∙ sym (append-nil (text_of_lines b))))
   where
     by : (more : List Line) × Follows b a [] more → a ≡ b
     by ([], follows) = follows.all ∙ append-nil b
     by (line ∷ more, follows) = absurd (omega (arith, ap length (follows.spelled ∙ text-cons line more), length-append (spelling line) (10 ∷ text_of_lines more)))
+
+-- no bytes are the first script of two lists of lines
+pub same_script : (bytes : List ℕ) (a b : List Line) → IsFirstScript bytes a → IsFirstScript bytes b → a ≡ b
+same_script bytes a b is is' = same_lines_of_text a b is.names is'.names (sym is.spelled ∙ is'.spelled)

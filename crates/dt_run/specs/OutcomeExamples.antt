@@ -1,12 +1,18 @@
 -- Small worked examples of logs that are outcomes of a script, and of logs that are none.
-use Rattle.std.specs.Prelude.{ℕ, List, [], ◌∷◌, codes, refl}
+use Rattle.std.specs.Prelude.{◌≡◌, ℕ, suc, List, [], ◌∷◌, take, codes, Result, Ok, Err, IsOk, refl}
+use Rattle.std.proofs.Common.{ap, arith}
+use Rattle.dt_definitions.specs.Program.{Program}
+use Rattle.dt_definitions.specs.Step.{step_batch, after, Refused as Refusal}
+use Rattle.dt_definitions.specs.declared.edit.Edit.{Edit}
+use Rattle.dt_definitions.specs.declared.edit.Edit.TheVariants.{AddClass}
 use Rattle.dt_definitions.specs.declared.why.Why.TheVariants.{ClassExists, ClassUnknown}
+use Rattle.dt_scratch.specs.Resolve.{reply}
 use Rattle.dt_scratch.specs.declared.reply.Answer.TheVariants.{Method, NotUnderstood}
 use Rattle.dt_scratch.specs.declared.reply.Reply.TheVariants.{NoSelector, Answered}
 use Rattle.dt_run.specs.Line.{Line, Header, Class, Subclass, Selector, Define, Caller, Call, End}
 use Rattle.dt_run.specs.Script.{script_of}
 use Rattle.dt_run.specs.Log.{Log, PartLog}
-use Rattle.dt_run.specs.Outcome.{Outcome}
+use Rattle.dt_run.specs.Outcome.{history_of, Outcome}
 use Rattle.dt_run.specs.declared.log.CallLine.{CallLine}
 use Rattle.dt_run.specs.declared.log.CallLine.TheVariants.{Called, CallWorn}
 use Rattle.dt_run.specs.declared.log.EditLine.{EditLine}
@@ -90,3 +96,105 @@ no_worn_call :
     Outcome (script_of (Header ∷ Caller ∷ Call (codes "f") (codes "A") ∷ End ∷ []))
     (log_of 0 [] (record { caller = 1; lines = CallWorn 1 ∷ [] } ∷ [])) → ⊥
 no_worn_call outcome = outcome.calls.0.0
+
+-- an accepted edit has the number of the batches accepted up to and with it
+no_version_skipped : Outcome (script_of one_class) (log_of 1 (Accepted 2 ∷ []) []) → ⊥
+no_version_skipped outcome = by outcome.versions.1.0
+  where
+    by : ◌≡◌ {A = ℕ} 2 1 → ⊥
+    by same = absurd cc
+
+-- a phase goes from the version before it to the version after it, and the last version is that
+abbrev one_class_log : ℕ → ℕ → ℕ → Log
+one_class_log from to last = record
+    { phases = record { from = from; to = to; edits = Accepted 1 ∷ []; callers = [] } ∷ []; last = last }
+
+one_class_is_outcome : Outcome (script_of one_class) (one_class_log 0 1 1)
+one_class_is_outcome = record {
+  shape = (refl, tt, tt);
+  versions = (refl, (refl, tt), refl, refl);
+  edits = ((refl, tt), tt);
+  calls = (tt, tt);
+}
+
+no_later_start : (from : ℕ) → Outcome (script_of one_class) (one_class_log (suc from) 1 1) → ⊥
+no_later_start from outcome = absurd (omega (arith, outcome.versions.0))
+
+no_earlier_end : Outcome (script_of one_class) (one_class_log 0 0 0) → ⊥
+no_earlier_end outcome = by outcome.versions.2
+  where
+    by : ◌≡◌ {A = ℕ} 0 1 → ⊥
+    by same = absurd cc
+
+no_other_last : Outcome (script_of one_class) (one_class_log 0 1 2) → ⊥
+no_other_last outcome = by outcome.versions.3
+  where
+    by : ◌≡◌ {A = ℕ} 2 1 → ⊥
+    by same = absurd cc
+
+-- an edit that steps isn't refused, and one that doesn't isn't accepted
+no_refusal_of_a_step : Outcome (script_of one_class) (log_of 0 (Refused 1 ClassExists ∷ []) []) → ⊥
+no_refusal_of_a_step outcome = absurd (by outcome.edits.0.0)
+  where
+    by : step_batch (after []) (AddClass 0 [] ∷ []) ≡ Err (record { at = 1; why = ClassExists }) → ⊥
+    by same = absurd cc
+
+no_second_class : Outcome (script_of (Header ∷ Class (codes "A") ∷ Class (codes "A") ∷ End ∷ [])) (log_of 2 (Accepted 1 ∷ Accepted 2 ∷ []) []) → ⊥
+no_second_class outcome = by outcome.edits.0.1.0
+  where
+    by : IsOk (step_batch (after ((AddClass 0 [] ∷ []) ∷ [])) (AddClass 0 [] ∷ [])) → ⊥
+    by same = absurd cc
+
+-- the place that a refusal tells
+abbrev refused_at : Result Program Refusal → ℕ
+refused_at (Ok program) = 0
+refused_at (Err refused) = refused.at
+
+-- a refusal tells its place and its cause
+no_other_place : Outcome (script_of (Header ∷ Class (codes "A") ∷ Class (codes "A") ∷ End ∷ [])) (log_of 1 (Accepted 1 ∷ Refused 2 ClassExists ∷ []) []) → ⊥
+no_other_place outcome = by outcome.edits.0.1.0
+  where
+    by : step_batch (after ((AddClass 0 [] ∷ []) ∷ [])) (AddClass 0 [] ∷ []) ≡ Err (record { at = 2; why = ClassExists }) → ⊥
+    by same = let wrong : ◌≡◌ {A = ℕ} 1 2 = ap refused_at same in absurd (omega (arith, wrong))
+
+-- ---- logs that are no outcome of the override
+
+abbrev override_with : CallLine → Log
+override_with first = log_of 5
+    (Accepted 1 ∷ Accepted 2 ∷ Accepted 3 ∷ Accepted 4 ∷ Accepted 5 ∷ [])
+    (record { caller = 1; lines = first ∷ method_at 5 1 ∷ [] } ∷ [])
+
+-- a call is answered at the version after the edits, by look-up at that version
+no_earlier_version : Outcome (script_of override_lines) (override_with (method_at 4 0)) → ⊥
+no_earlier_version outcome = by outcome.calls.0.0.0
+  where
+    by : ◌≡◌ {A = ℕ} 4 5 → ⊥
+    by same = absurd cc
+
+no_other_body : Outcome (script_of override_lines) (override_with (method_at 5 1)) → ⊥
+no_other_body outcome = absurd (body_of_first outcome.calls.0.0.1)
+  where
+    body_of_first : Answered (Method 1) ≡ reply (after (take 5 (history_of (script_of override_lines).phases override_log.phases))) (record { selector = 0; classes = 0 ∷ [] }) → ⊥
+    body_of_first same = absurd cc
+
+-- the caller is that of the script
+no_other_caller : Outcome (script_of (Header ∷ Caller ∷ End ∷ [])) (log_of 0 [] (record { caller = 2; lines = [] } ∷ [])) → ⊥
+no_other_caller outcome = by outcome.shape.1.0
+  where
+    by : ◌≡◌ {A = ℕ} 2 1 → ⊥
+    by same = absurd cc
+
+-- ---- the history of two phases: the batches that were accepted, in order
+
+abbrev first_edit : Edit
+first_edit = AddClass 0 []
+
+abbrev second_edit : Edit
+second_edit = AddClass 1 []
+
+two_phases_one_history : history_of
+    (record { edits = (first_edit ∷ []) ∷ (first_edit ∷ []) ∷ []; callers = [] } ∷ record { edits = (second_edit ∷ []) ∷ []; callers = [] } ∷ [])
+    (record { from = 0; to = 1; edits = Accepted 1 ∷ Refused 1 ClassExists ∷ []; callers = [] }
+    ∷ record { from = 1; to = 2; edits = Accepted 2 ∷ []; callers = [] } ∷ [])
+    ≡ (first_edit ∷ []) ∷ (second_edit ∷ []) ∷ []
+two_phases_one_history = refl

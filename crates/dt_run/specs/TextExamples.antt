@@ -1,17 +1,17 @@
 -- Small worked examples of the texts of logs, and of whole runs from bytes to bytes.
-use Rattle.std.specs.Prelude.{◌≡◌, [], ◌∷◌, codes, refl}
+use Rattle.std.specs.Prelude.{◌≡◌, [], ◌∷◌, codes, flat_map, refl}
 use Rattle.std.specs.Fmt.{digits}
 use Rattle.std.proofs.Common.{lit≤}
-use Rattle.dt_definitions.specs.declared.why.Why.TheVariants.{ClassUnknown, HasSubclasses, DefinitionsFull}
-use Rattle.dt_scratch.specs.declared.reply.Answer.TheVariants.{Method, Ambiguous}
-use Rattle.dt_scratch.specs.declared.reply.Reply.TheVariants.{NoClass, Answered}
+use Rattle.dt_definitions.specs.declared.why.Why.TheVariants.{ClassExists, ClassUnknown, ParentTwice, TooManyParents, HasSubclasses, LinkExists, LinkUnknown, Cycle, SelectorExists, SelectorUnknown, ArityDiffers, NoDefinition, HasDefinitions, DefinitionsFull}
+use Rattle.dt_scratch.specs.declared.reply.Answer.TheVariants.{Method, NotUnderstood, Ambiguous}
+use Rattle.dt_scratch.specs.declared.reply.Reply.TheVariants.{NoSelector, WrongArity, NoClass, Answered}
 use Rattle.dt_run.specs.Line.{Header, End}
 use Rattle.dt_run.specs.Numbering.{NameBook, empty_book}
-use Rattle.dt_run.specs.Text.{line_of, words_of_edit, words_of_call, text_of}
+use Rattle.dt_run.specs.Text.{name_of, words_of_why, words_of_edit, words_of_reply, words_of_call, line_of, text_of_part, text_of_edits, text_of_phase, text_of}
 use Rattle.dt_run.specs.Run.{IsRunOf}
 use Rattle.dt_run.specs.OutcomeExamples.{log_of, override_lines, override_log, override_is_outcome, refused_lines, refused_log, refused_is_outcome}
-use Rattle.dt_run.specs.declared.log.CallLine.TheVariants.{Called, CallWorn, PinnedAt}
-use Rattle.dt_run.specs.declared.log.EditLine.TheVariants.{Accepted, Refused, NoPages}
+use Rattle.dt_run.specs.declared.log.CallLine.TheVariants.{Called, CallWorn, PinnedAt, PinWorn, Unpinned}
+use Rattle.dt_run.specs.declared.log.EditLine.TheVariants.{Accepted, Refused, VersionsFull, CellsFull, RowsFull, NoPages}
 
 abbrev two_classes : NameBook
 two_classes = record { classes = codes "A" ∷ codes "B" ∷ []; selectors = codes "f" ∷ []; bodies = codes "fa" ∷ codes "fb" ∷ [] }
@@ -57,6 +57,57 @@ pin : line_of (words_of_call two_classes 2 (PinnedAt 7)) ≡ codes "pin 2 7\n"
 unfolding digits
 pin = refl
 
+pin_worn : line_of (words_of_call two_classes 2 (PinWorn 7)) ≡ codes "pin 2 worn 7\n"
+unfolding digits
+pin_worn = refl
+
+unpin : line_of (words_of_call two_classes 12 Unpinned) ≡ codes "unpin 12\n"
+unfolding digits
+unpin = refl
+
+-- a name that there isn't is no bytes
+no_third_class : name_of two_classes.classes 2 ≡ []
+no_third_class = refl
+
+no_word : line_of [] ≡ 10 ∷ []
+no_word = refl
+
+-- ---- tables
+
+-- each refusal has its own number and word, and those about a class its name
+all_refusals : flat_map (λ why. line_of (words_of_why two_classes why))
+    (ClassExists ∷ ClassUnknown 1 ∷ ParentTwice 0 ∷ TooManyParents ∷ HasSubclasses 1 ∷ LinkExists ∷ LinkUnknown ∷ Cycle
+    ∷ SelectorExists ∷ SelectorUnknown ∷ ArityDiffers ∷ NoDefinition ∷ HasDefinitions ∷ DefinitionsFull ∷ [])
+    ≡ codes "1 class-exists\n2 class-unknown B\n3 parent-twice A\n4 too-many-parents\n5 has-subclasses B\n6 link-exists\n7 link-unknown\n8 cycle\n10 selector-exists\n11 selector-unknown\n12 arity-differs\n13 no-definition\n14 has-definitions\n15 definitions-full\n"
+all_refusals = refl
+
+all_edits : text_of_edits two_classes (Accepted 10 ∷ Refused 2 Cycle ∷ VersionsFull ∷ CellsFull ∷ RowsFull ∷ NoPages 7 3 ∷ [])
+    ≡ codes "edit accepted 10\nedit refused 2 8 cycle\nedit versions-full\nedit cells-full\nedit rows-full\nedit no-pages 7 3\n"
+unfolding digits
+all_edits = refl
+
+all_replies : flat_map (λ reply. line_of (words_of_reply two_classes reply))
+    (NoSelector ∷ WrongArity ∷ NoClass 2 ∷ Answered (Method 0) ∷ Answered NotUnderstood ∷ Answered Ambiguous ∷ [])
+    ≡ codes "no-selector\nwrong-arity\nno-class 2\nmethod fa\nnot-understood\nambiguous\n"
+unfolding digits
+all_replies = refl
+
+-- a caller's lines stand in its order
+part_in_order : text_of_part two_classes (record { caller = 3; lines = PinnedAt 1 ∷ CallWorn 2 ∷ Unpinned ∷ [] })
+    ≡ codes "pin 3 1\ncall 3 worn 2\nunpin 3\n"
+unfolding digits
+part_in_order = refl
+
+-- the edits of a phase stand before its callers
+edits_before_callers : text_of_phase two_classes 7 (record {
+  from = 4;
+  to = 5;
+  edits = Accepted 5 ∷ [];
+  callers = record { caller = 2; lines = Unpinned ∷ [] } ∷ record { caller = 1; lines = Unpinned ∷ [] } ∷ [];
+}) ≡ codes "phase 7 4 5\nedit accepted 5\nunpin 2\nunpin 1\n"
+unfolding digits
+edits_before_callers = refl
+
 -- ---- whole texts
 
 -- phases are numbered from 1, and a later one goes on from the version before it
@@ -67,8 +118,13 @@ two_phases : text_of empty_book (record {
 unfolding digits
 two_phases = refl
 
+-- a caller without calls prints nothing, so a text alone doesn't tell whether one was there
+silent_caller : text_of empty_book (log_of 0 [] (record { caller = 1; lines = [] } ∷ [])) ≡ text_of empty_book (log_of 0 [] [])
+unfolding digits
+silent_caller = refl
+
 -- the smallest run
-smallest_run : IsRunOf (codes "dispatch 1\nend\n") (log_of 0 [] []) (codes "phase 1 0 0\ndone 0\n")
+pub smallest_run : IsRunOf (codes "dispatch 1\nend\n") (log_of 0 [] []) (codes "phase 1 0 0\ndone 0\n")
 unfolding digits
 smallest_run = record {
   lines = Header ∷ End ∷ [];
@@ -78,7 +134,7 @@ smallest_run = record {
 }
 
 -- a method, and the one in its place for a class below
-override_run : IsRunOf
+pub override_run : IsRunOf
     (codes "dispatch 1\nclass A\nclass B < A\nselector f 1\ndefine f A -> fa\ndefine f B -> fb\ncaller 1\ncall f A\ncall f B\nend\n")
     override_log
     (codes "phase 1 0 5\nedit accepted 1\nedit accepted 2\nedit accepted 3\nedit accepted 4\nedit accepted 5\ncall 1 5 method fa\ncall 1 5 method fb\ndone 5\n")

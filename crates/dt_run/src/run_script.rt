@@ -150,6 +150,7 @@ pub fn run<H: Threads + Sync, S: Source, K: Sink, T: Turnstile>(
 
     // The other endings: when each comes, and what the sink took.
     ensures usage { (result.status ≡ Status.Usage) ↔ (words.now ≢ run_words) }
+    ensures command { result.status ≢ Status.Usage → words.now ≡ run_words }
     ensures usage_unread { result.status ≡ Status.Usage → source.new ≡ source.old }
     ensures usage_told { result.status ≡ Status.Usage
         → Told (K.taken sink.old) (K.taken sink.new) (K.faults sink.old) (K.faults sink.new) usage_text }

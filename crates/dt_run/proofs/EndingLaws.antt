@@ -1,0 +1,30 @@
+-- The laws of endings, from what bytes determine.
+use Rattle.std.proofs.Common.{◌≡◌, ℕ, ◌+◌, List, [], ◌∷◌, ◌++◌, length, take, Option, Some, None, refl, sym, ap, ◌∙◌}
+use Rattle.dt_run.specs.Log.{Log}
+use Rattle.dt_run.specs.Run.{IsDone, IsCutShort}
+use Rattle.dt_run.specs.EndingLaws.{OneDone, CutShortOfDone, DoneIsCutShort}
+use Rattle.dt_run.proofs.FirstLaws.{one_run}
+use Rattle.dt_run.proofs.OutsideLaws.{take-after, whole_is_prefix}
+
+pub one_done : OneDone
+one_done bytes before after other None given done done' = absurd done
+one_done bytes before after other (Some log) None done done' = absurd done'
+one_done bytes before after other (Some log) (Some log') (text, run, taken) (text', run', taken') =
+    let same = one_run bytes log log' text text' run run' in
+    (taken ∙ ap (λ t. before ++ t) same.1 ∙ sym taken', ap (λ l. Some l) same.0)
+
+pub cut_short_of_done : CutShortOfDone
+cut_short_of_done bytes before after part None given done cut = absurd done
+cut_short_of_done bytes before after part (Some log) None done cut = absurd cut
+cut_short_of_done bytes before after part (Some log) (Some log') (text, run, taken) (text', run', (count, few, put)) =
+    let same = one_run bytes log log' text text' run run' in (
+      (
+        length before + count,
+        put ∙ ap (λ t. before ++ take count t) (sym same.1) ∙ sym (take-after before text count) ∙ ap (take (length before + count)) (sym taken),
+      ),
+      ap (λ l. Some l) same.0,
+    )
+
+pub done_is_cut_short : DoneIsCutShort
+done_is_cut_short bytes before after None done = done
+done_is_cut_short bytes before after (Some log) (text, run, taken) = (text, run, whole_is_prefix before after text taken)
