@@ -1,7 +1,5 @@
 -- The laws of endings, from what bytes determine.
-use Rattle.std.proofs.Common.{◌≡◌, ℕ, ◌+◌, List, [], ◌∷◌, ◌++◌, length, take, Option, Some, None, refl, sym, ap, ◌∙◌}
-use Rattle.dt_run.specs.Log.{Log}
-use Rattle.dt_run.specs.Run.{IsDone, IsCutShort}
+use Rattle.std.proofs.Common.{◌+◌, ◌++◌, length, take, Some, None, sym, ap, ◌∙◌}
 use Rattle.dt_run.specs.EndingLaws.{OneDone, CutShortOfDone, DoneIsCutShort}
 use Rattle.dt_run.proofs.FirstLaws.{one_run}
 use Rattle.dt_run.proofs.OutsideLaws.{take-after, whole_is_prefix}

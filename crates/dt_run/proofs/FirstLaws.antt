@@ -9,7 +9,7 @@ use Rattle.dt_scratch.specs.Query.{Query}
 use Rattle.dt_run.specs.Line.{Line}
 use Rattle.dt_run.specs.Numbering.{empty_book, edits_from}
 use Rattle.dt_run.specs.Script.{single, one_phase, parts_of, script_of, calls_of, names_of}
-use Rattle.dt_run.specs.Log.{Log, PhaseLog, PartLog}
+use Rattle.dt_run.specs.Log.{PhaseLog, PartLog}
 use Rattle.dt_run.specs.declared.log.EditLine.{EditLine}
 use Rattle.dt_run.specs.Outcome.{accepted, Outcome, PartsHaveShape, PartsAreAnswered, EditsStepFrom, AreNumberedFrom}
 use Rattle.dt_run.specs.Performing.{lines_from, history_from, part_logs, performed_log}
@@ -52,9 +52,6 @@ pub four_refusals : OnlyFourRefusals
 four_refusals bytes lines log script outcome = first_phases lines log.phases log.last script.few outcome
 
 -- an outcome of one phase is what performing logs
-abbrev log_with : List EditLine → List PartLog → ℕ → Log
-log_with lines callers version = record { phases = record { from = 0; to = version; edits = lines; callers = callers } ∷ []; last = version }
-
 is_performed : (edits : List Edit) (calls : Option (List Query)) (phases : List PhaseLog) (last : ℕ) → Outcome (one_phase edits calls) (record { phases = phases; last = last }) → record { phases = phases; last = last } ≡ performed_log edits calls
 is_performed edits calls [] last outcome = absurd outcome.shape
 is_performed edits calls (phase ∷ []) last outcome =

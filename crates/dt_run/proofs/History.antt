@@ -1,13 +1,12 @@
 -- How a history grows by an edit, and what the log of performing says of it.
-use Rattle.std.proofs.Common.{◌≡◌, ℕ, ◌+◌, ◌<◌, List, [], ◌∷◌, ◌++◌, length, take, Ok, Err, refl, sym, ap, ◌∙◌, subst, arith, length-append, get_or, ◌≤◌}
+use Rattle.std.proofs.Common.{◌≡◌, ℕ, ◌+◌, ◌<◌, List, [], ◌∷◌, ◌++◌, length, take, Ok, refl, sym, ap, ◌∙◌, subst, arith, length-append, get_or, ◌≤◌}
 use Rattle.std.proofs.lemmas.List.{take_more}
 use Rattle.std.specs.Result.{result_unwrap_or}
 use Rattle.dt_definitions.specs.Program.{Program}
 use Rattle.dt_definitions.specs.Step.{step, step_from, and_then, stepped, after, after_from}
 use Rattle.dt_definitions.specs.declared.edit.Edit.{Edit}
-use Rattle.dt_definitions.specs.declared.why.Why.{Why}
 use Rattle.dt_run.specs.declared.log.EditLine.{EditLine}
-use Rattle.dt_run.specs.declared.log.EditLine.TheVariants.{Accepted, Refused}
+use Rattle.dt_run.specs.declared.log.EditLine.TheVariants.{Accepted}
 use Rattle.dt_run.specs.Performing.{IsPerformed, line_by, edit_line, history_by, next_history, lines_from, history_from}
 
 abbrev History : Type 0
@@ -32,17 +31,6 @@ accepted_edit p q h edit version lines here count stepping =
       lines = ap (λ n. lines ++ Accepted (n + 1) ∷ []) count ∙ ap (λ r. lines ++ line_by (length h) r ∷ []) (sym stepping');
       stepped = sym (ap after (sym longer) ∙ after_from-snoc _ h (edit ∷ []) ∙ stepped_one (after h) q edit stepping');
       counted = omega arith;
-      one_more = omega arith;
-    }
-
--- an edit that is refused is told, and the program and the history stay
-pub refused_edit : (p : Program) (h : History) (edit : Edit) (why : Why) (version : ℕ) (lines : List EditLine) → p ≡ after h → version ≡ length h → step p edit ≡ Err why → IsPerformed h edit lines (lines ++ Refused 1 why ∷ []) p version
-refused_edit p h edit why version lines here count stepping =
-    let stepping' : step (after h) edit ≡ Err why = subst (λ (r : Program). step r edit ≡ Err why) here stepping in
-    record {
-      lines = ap (λ r. lines ++ line_by (length h) r ∷ []) (sym stepping');
-      stepped = here ∙ ap (λ r. after (history_by h edit r)) (sym stepping');
-      counted = count ∙ ap (λ r. length (history_by h edit r)) (sym stepping');
       one_more = omega arith;
     }
 

@@ -2,7 +2,7 @@ pub mod Appending
 pub mod Losing
 pub mod Parts
 pub mod Spelling
-pub mod Numbers
+pub mod NumbersStay
 pub mod Taking
 pub mod LinesRead
 pub mod NoScript

@@ -1,5 +1,5 @@
 -- What stands after some lines of a first script were read.
-use Rattle.std.proofs.Common.{◌≡◌, ℕ, ◌+◌, ◌<◌, ◌≤◌, Bool, true, false, ◌&&◌, ◌||◌, cond, IsTrue, List, [], ◌∷◌, ◌++◌, length, Option, Some, None, MatchOption, option_to_list, refl, sym, ap, subst, ◌∙◌, arith, append_assoc, append-nil, length-append}
+use Rattle.std.proofs.Common.{◌≡◌, ℕ, ◌+◌, ◌<◌, ◌≤◌, Bool, true, false, ◌&&◌, ◌||◌, ◌↔◌, IsTrue, List, [], ◌∷◌, ◌++◌, length, Option, Some, None, MatchOption, option_to_list, refl, sym, ap, subst, ◌∙◌, arith, append_assoc, append-nil, length-append}
 use Rattle.std.specs.List.{list_all, list_any, cons_option}
 use Rattle.std.proofs.lemmas.Bool.{and_from}
 use Rattle.std.proofs.lemmas.List.Folds.{list_all-append}
@@ -10,13 +10,12 @@ use Rattle.dt_run.specs.FirstScript.{IsInOrder, EditsThenCalls, CallsThenEnd, te
 use Rattle.dt_run.specs.Stage.{stage_after}
 use Rattle.dt_run.specs.declared.stage.Stage.{Stage}
 use Rattle.dt_run.specs.declared.stage.Stage.TheVariants.{Start, Edits, Calls, Ended}
-use Rattle.dt_run.specs.Numbering.{NameBook, empty_book, book_after, book_after_all, edit_in, edits_from, query_in, queries_from}
+use Rattle.dt_run.specs.Numbering.{NameBook, empty_book, book_after, book_after_all, given_from, edit_in, edits_from, query_in, queries_from}
 use Rattle.dt_run.specs.Script.{is_caller}
-use Rattle.dt_run.specs.Numbered.{HasRoom, IsStart, Takes}
-use Rattle.dt_run.specs.InNumbers.{AreNumbers, IsNumbered, IsScriptOf}
-use Rattle.dt_run.specs.declared.numbered.Numbered.{Numbered}
-use Rattle.dt_run.specs.declared.first_script.FirstScript.{FirstScript}
-use Rattle.dt_run.proofs.Numbers.{few_names}
+use Rattle.dt_run.specs.ScriptBuilder.{HasRoom, HoldsNothing, Takes}
+use Rattle.dt_run.specs.BuiltScript.{HoldsLines}
+use Rattle.dt_run.specs.declared.script_builder.ScriptBuilder.{ScriptBuilder}
+use Rattle.dt_run.proofs.NumbersStay.{few_names}
 
 -- the lines that may follow at a stage
 abbrev pub MayFollow : Stage → List Line → Type 0
@@ -26,21 +25,21 @@ MayFollow Calls lines = CallsThenEnd lines
 MayFollow Ended lines = lines ≡ []
 
 -- these lines were read from the bytes, and the rest wasn't
-pub record HasRead (bytes rest : List ℕ) (count : ℕ) (stage : Stage) (numbered : Numbered) (read : List Line) : Type 0 where
+pub record HasRead (bytes rest : List ℕ) (count : ℕ) (stage : Stage) (builder : ScriptBuilder) (read : List Line) : Type 0 where
   pub spelled : bytes ≡ text_of_lines read ++ rest
   pub names_hold : IsTrue (list_all has_names read)
   pub counted : length read ≡ count
   pub few : count ≤ SCRIPT_LINES
   pub onwards : (more : List Line) → MayFollow stage more → IsInOrder (read ++ more)
   pub back : (more : List Line) → IsInOrder (read ++ more) → MayFollow stage more
-  pub names : numbered.names ≡ book_after_all empty_book read
-  pub edits : numbered.edits.items ≡ edits_from empty_book read
-  pub queries : numbered.queries.items ≡ queries_from empty_book read
-  pub has_caller : numbered.has_caller ≡ list_any is_caller read
+  pub names : builder.names ≡ book_after_all empty_book read
+  pub edits : builder.edits.items ≡ edits_from empty_book read
+  pub queries : builder.queries.items ≡ queries_from empty_book read
+  pub has_caller : builder.has_caller ≡ list_any is_caller read
 
 -- nothing was read
-pub nothing_read : (bytes : List ℕ) (numbered : Numbered) → IsStart numbered → HasRead bytes bytes 0 Start numbered []
-nothing_read bytes numbered start = record {
+pub nothing_read : (bytes : List ℕ) (builder : ScriptBuilder) → HoldsNothing builder → HasRead bytes bytes 0 Start builder []
+nothing_read bytes builder start = record {
   spelled = refl;
   names_hold = refl;
   counted = refl;
@@ -53,36 +52,21 @@ nothing_read bytes numbered start = record {
   has_caller = start.has_caller;
 }
 
--- a line that may stand at a stage leads to the next one
-step_on : (stage : Stage) (line : Line) (more : List Line) → MatchOption (stage_after stage line) ⊥ (λ next. MayFollow next more) → MayFollow stage (line ∷ more)
-step_on Start Header more follow = follow
-step_on Start _ more follow = absurd follow
-step_on Edits (Class name) more follow = follow
-step_on Edits (Subclass name parent) more follow = follow
-step_on Edits (Selector name) more follow = follow
-step_on Edits (Define selector class body) more follow = follow
-step_on Edits Caller more follow = follow
-step_on Edits End more follow = follow
-step_on Edits _ more follow = absurd follow
-step_on Calls (Call selector class) more follow = follow
-step_on Calls End more follow = follow
-step_on Calls _ more follow = absurd follow
-step_on Ended _ more follow = absurd follow
-
-pub step_back : (stage : Stage) (line : Line) (more : List Line) → MayFollow stage (line ∷ more) → MatchOption (stage_after stage line) ⊥ (λ next. MayFollow next more)
-step_back Start Header more follow = follow
-step_back Start _ more follow = absurd follow
-step_back Edits (Class name) more follow = follow
-step_back Edits (Subclass name parent) more follow = follow
-step_back Edits (Selector name) more follow = follow
-step_back Edits (Define selector class body) more follow = follow
-step_back Edits Caller more follow = follow
-step_back Edits End more follow = follow
-step_back Edits _ more follow = absurd follow
-step_back Calls (Call selector class) more follow = follow
-step_back Calls End more follow = follow
-step_back Calls _ more follow = absurd follow
-step_back Ended _ more follow = absurd cc
+-- what may follow a line at a stage is what may follow at the next stage, where the line may stand there
+pub next_stage : (stage : Stage) (line : Line) (more : List Line) → MayFollow stage (line ∷ more) ↔ MatchOption (stage_after stage line) ⊥ (λ next. MayFollow next more)
+next_stage Start Header more = (λ follow. follow, λ follow. follow)
+next_stage Start _ more = (λ follow. absurd follow, λ follow. absurd follow)
+next_stage Edits (Class name) more = (λ follow. follow, λ follow. follow)
+next_stage Edits (Subclass name parent) more = (λ follow. follow, λ follow. follow)
+next_stage Edits (Selector name) more = (λ follow. follow, λ follow. follow)
+next_stage Edits (Define selector class body) more = (λ follow. follow, λ follow. follow)
+next_stage Edits Caller more = (λ follow. follow, λ follow. follow)
+next_stage Edits End more = (λ follow. follow, λ follow. follow)
+next_stage Edits _ more = (λ follow. absurd follow, λ follow. absurd follow)
+next_stage Calls (Call selector class) more = (λ follow. follow, λ follow. follow)
+next_stage Calls End more = (λ follow. follow, λ follow. follow)
+next_stage Calls _ more = (λ follow. absurd follow, λ follow. absurd follow)
+next_stage Ended _ more = (λ follow. absurd cc, λ follow. absurd follow)
 
 -- one more line
 books-push : (book : NameBook) (read : List Line) (line : Line) → book_after_all book (read ++ line ∷ []) ≡ book_after (book_after_all book read) line
@@ -97,21 +81,13 @@ cons_option-append : {A : Type 0} (o : Option A) (xs ys : List A) → cons_optio
 cons_option-append None xs ys = refl
 cons_option-append (Some x) xs ys = refl
 
-edits-push : (book : NameBook) (read : List Line) (line : Line)
-    → edits_from book (read ++ line ∷ []) ≡ edits_from book read ++ option_to_list (edit_in (book_after (book_after_all book read) line) line)
-edits-push book [] line = cons_option-nil (edit_in (book_after book line) line)
-edits-push book (first ∷ read) line =
+given-push : {A : Type 0} (give : NameBook → Line → Option A) (book : NameBook) (read : List Line) (line : Line)
+    → given_from give book (read ++ line ∷ []) ≡ given_from give book read ++ option_to_list (give (book_after (book_after_all book read) line) line)
+given-push give book [] line = cons_option-nil (give (book_after book line) line)
+given-push give book (first ∷ read) line =
     let next = book_after book first in
-    ap (cons_option (edit_in next first)) (edits-push next read line)
-    ∙ cons_option-append (edit_in next first) (edits_from next read) (option_to_list (edit_in (book_after (book_after_all next read) line) line))
-
-queries-push : (book : NameBook) (read : List Line) (line : Line)
-    → queries_from book (read ++ line ∷ []) ≡ queries_from book read ++ option_to_list (query_in (book_after (book_after_all book read) line) line)
-queries-push book [] line = cons_option-nil (query_in (book_after book line) line)
-queries-push book (first ∷ read) line =
-    let next = book_after book first in
-    ap (cons_option (query_in next first)) (queries-push next read line)
-    ∙ cons_option-append (query_in next first) (queries_from next read) (option_to_list (query_in (book_after (book_after_all next read) line) line))
+    ap (cons_option (give next first)) (given-push give next read line)
+    ∙ cons_option-append (give next first) (given_from give next read) (option_to_list (give (book_after (book_after_all next read) line) line))
 
 any-push : (read : List Line) (line : Line) → list_any is_caller (read ++ line ∷ []) ≡ (list_any is_caller read || is_caller line)
 any-push [] line = or-nil (is_caller line)
@@ -126,7 +102,7 @@ any-push (first ∷ read) line = ap (λ b. is_caller first || b) (any-push read 
     or-assoc false b c = refl
 
 -- a line was taken
-pub line_read : (bytes rest after : List ℕ) (count : ℕ) (stage next : Stage) (old new : Numbered) (read : List Line) (line : Line)
+pub line_read : (bytes rest after : List ℕ) (count : ℕ) (stage next : Stage) (old new : ScriptBuilder) (read : List Line) (line : Line)
     → HasRead bytes rest count stage old read → rest ≡ spelling line ++ 10 ∷ after → IsTrue (has_names line)
     → stage_after stage line ≡ Some next → count < SCRIPT_LINES → Takes old line new
     → HasRead bytes after (count + 1) next new (read ++ line ∷ [])
@@ -136,13 +112,13 @@ line_read bytes rest after count stage next old new read line h spelled names st
   names_hold = list_all-append has_names read (line ∷ []) ∙ and_from (list_all has_names read) (has_names line && true) h.names_hold (and_from (has_names line) true names refl);
   counted = length-append read (line ∷ []) ∙ ap (λ n. n + 1) h.counted;
   few = omega arith;
-  onwards = λ more follow. subst IsInOrder (sym (append_assoc read (line ∷ []) more)) (h.onwards (line ∷ more) (step_on stage line more (rw stands follow)));
-  back = λ more order. rw stands at (step_back stage line more (h.back (line ∷ more) (subst IsInOrder (append_assoc read (line ∷ []) more) order)));
+  onwards = λ more follow. subst IsInOrder (sym (append_assoc read (line ∷ []) more)) (h.onwards (line ∷ more) ((next_stage stage line more).1 (rw stands follow)));
+  back = λ more order. rw stands at ((next_stage stage line more).0 (h.back (line ∷ more) (subst IsInOrder (append_assoc read (line ∷ []) more) order)));
   names = takes.names ∙ ap (λ b. book_after b line) h.names ∙ sym (books-push empty_book read line);
   edits = takes.edits ∙ ap (λ es. es ++ option_to_list (edit_in (book_after old.names line) line)) h.edits
-      ∙ ap (λ b. edits_from empty_book read ++ option_to_list (edit_in (book_after b line) line)) h.names ∙ sym (edits-push empty_book read line);
+      ∙ ap (λ b. edits_from empty_book read ++ option_to_list (edit_in (book_after b line) line)) h.names ∙ sym (given-push edit_in empty_book read line);
   queries = takes.queries ∙ ap (λ qs. qs ++ option_to_list (query_in (book_after old.names line) line)) h.queries
-      ∙ ap (λ b. queries_from empty_book read ++ option_to_list (query_in (book_after b line) line)) h.names ∙ sym (queries-push empty_book read line);
+      ∙ ap (λ b. queries_from empty_book read ++ option_to_list (query_in (book_after b line) line)) h.names ∙ sym (given-push query_in empty_book read line);
   has_caller = takes.has_caller ∙ ap (λ b. b || is_caller line) h.has_caller ∙ sym (any-push read line);
 }
   where
@@ -150,9 +126,9 @@ line_read bytes rest after count stage next old new read line h spelled names st
     regroup text line after = simp (append_assoc, append-nil)
 
 -- there is room for the names of one more line
-pub has_room : (bytes rest : List ℕ) (count : ℕ) (stage : Stage) (numbered : Numbered) (read : List Line)
-    → HasRead bytes rest count stage numbered read → count < SCRIPT_LINES → HasRoom numbered.names
-has_room bytes rest count stage numbered read h room =
+pub has_room : (bytes rest : List ℕ) (count : ℕ) (stage : Stage) (builder : ScriptBuilder) (read : List Line)
+    → HasRead bytes rest count stage builder read → count < SCRIPT_LINES → HasRoom builder.names
+has_room bytes rest count stage builder read h room =
     let few = few_names empty_book read in
     record {
       classes = omega (arith, few.classes, ap (λ b. length b.classes) h.names, h.counted);
@@ -161,10 +137,10 @@ has_room bytes rest count stage numbered read h room =
     }
 
 -- all was read
-pub all_read : (bytes rest : List ℕ) (count : ℕ) (numbered : Numbered) (read : List Line)
-    → HasRead bytes rest count Ended numbered read → rest ≡ []
-    → (lines : List Line) × IsFirstScript bytes lines × AreNumbers lines numbered
-all_read bytes rest count numbered read h empty = (
+pub all_read : (bytes rest : List ℕ) (count : ℕ) (builder : ScriptBuilder) (read : List Line)
+    → HasRead bytes rest count Ended builder read → rest ≡ []
+    → (lines : List Line) × IsFirstScript bytes lines × HoldsLines lines builder
+all_read bytes rest count builder read h empty = (
   read,
   record {
     spelled = h.spelled ∙ ap (λ r. text_of_lines read ++ r) empty ∙ append-nil (text_of_lines read);
@@ -175,14 +151,7 @@ all_read bytes rest count numbered read h empty = (
   record { names = h.names; edits = h.edits; has_caller = h.has_caller; queries = h.queries },
 )
 
--- the script of the numbers of the lines is theirs
-pub numbered_script : (lines : List Line) (numbered : Numbered) (script : FirstScript) → AreNumbers lines numbered → IsScriptOf numbered script → IsNumbered lines script
-numbered_script lines numbered script are is = record {
-  names = is.names ∙ are.names;
-  edits = is.edits ∙ are.edits;
-  calls = is.calls ∙ ap (λ b. cond b (Some numbered.queries.items) None) are.has_caller ∙ ap (λ qs. cond (list_any is_caller lines) (Some qs) None) are.queries;
-}
-
+-- no byte is left where their number is 0
 pub empty_from_length : (bytes : List ℕ) → length bytes ≡ 0 → bytes ≡ []
 empty_from_length [] e = refl
 empty_from_length (x ∷ xs) e = absurd (omega (arith, e))

@@ -8,10 +8,10 @@ use Rattle.dt_run.specs.FirstScript.{IsInOrder, text_of_lines, IsFirstScript}
 use Rattle.dt_run.specs.Stage.{stage_after}
 use Rattle.dt_run.specs.declared.stage.Stage.{Stage}
 use Rattle.dt_run.specs.declared.stage.Stage.TheVariants.{Start, Edits, Calls, Ended}
-use Rattle.dt_run.specs.declared.numbered.Numbered.{Numbered}
+use Rattle.dt_run.specs.declared.script_builder.ScriptBuilder.{ScriptBuilder}
 use Rattle.dt_run.proofs.Parts.{same_cut}
 use Rattle.dt_run.proofs.Spelling.{spelling-free, same_line}
-use Rattle.dt_run.proofs.LinesRead.{HasRead, MayFollow, step_back}
+use Rattle.dt_run.proofs.LinesRead.{HasRead, MayFollow, next_stage}
 
 -- the text of a line and more
 pub text-cons : (line : Line) (lines : List Line) → text_of_lines (line ∷ lines) ≡ spelling line ++ 10 ∷ text_of_lines lines
@@ -39,7 +39,7 @@ goes_on (r ∷ read) (l ∷ lines) rest named named' e =
     let next = goes_on read lines rest ours.1 theirs.1 cut.1 in
     (next.0, record { all = ap (λ first. first ∷ lines) same ∙ ap (λ ls. r ∷ ls) next.1.all; spelled = next.1.spelled; names = next.1.names })
 
-module _ (bytes rest : List ℕ) (count : ℕ) (stage : Stage) (numbered : Numbered) (read : List Line) (h : HasRead bytes rest count stage numbered read) where
+module _ (bytes rest : List ℕ) (count : ℕ) (stage : Stage) (builder : ScriptBuilder) (read : List Line) (h : HasRead bytes rest count stage builder read) where
   -- a first script goes on with a line wherever some bytes are left
   left : (lines : List Line) → IsFirstScript bytes lines → (more : List Line) × Follows read lines rest more
   left lines is = goes_on read lines rest h.names_hold is.names (sym is.spelled ∙ h.spelled)
@@ -68,7 +68,7 @@ module _ (bytes rest : List ℕ) (count : ℕ) (stage : Stage) (numbered : Numbe
           let heads = sym spelled ∙ follows.spelled ∙ text-cons next more in
           let cut = same_cut 10 (spelling line) (spelling next) after (text_of_lines more) (spelling-free line named) (spelling-free next theirs.0) heads in
           let same : next ≡ line = sym (same_line line next named theirs.0 cut.0) in
-          rw none at (step_back stage line more (subst (λ l. MayFollow stage (l ∷ more)) same (in_order lines (next ∷ more) is follows.all)))
+          rw none at ((next_stage stage line more).0 (subst (λ l. MayFollow stage (l ∷ more)) same (in_order lines (next ∷ more) is follows.all)))
 
   -- there are as many lines as there may be, and some bytes are left
   pub too_many_lines : 0 < length rest → count ≡ SCRIPT_LINES → (lines : List Line) → IsFirstScript bytes lines → ⊥

@@ -1,11 +1,10 @@
 -- Which bytes are no script: what may stand behind a first script, and lines that can't be its own.
-use Rattle.std.proofs.Common.{◌≡◌, ℕ, ◌<◌, IsTrue, List, [], ◌∷◌, ◌++◌, length, codes, inr, refl, sym, ap, subst, ◌∙◌, arith, append-nil, length-append}
+use Rattle.std.proofs.Common.{◌≡◌, ℕ, ◌<◌, IsTrue, List, [], ◌∷◌, ◌++◌, length, codes, inr, refl, sym, ap, subst, ◌∙◌, arith, length-append}
 use Rattle.std.specs.List.{list_all}
 use Rattle.std.proofs.lemmas.Bool.{and_parts}
 use Rattle.dt_run.specs.Cut.{parts_at}
 use Rattle.dt_run.specs.Line.{Line, Header, Class, Subclass, Selector, Define, Caller, Call, End, words_of, spelling, has_names}
 use Rattle.dt_run.specs.FirstScript.{CallsThenEnd, EditsThenCalls, IsInOrder, text_of_lines, IsFirstScript}
-use Rattle.dt_run.specs.Run.{IsNoScript}
 use Rattle.dt_run.specs.NoScriptLaws.{NothingBehind, NothingMissing, TooManyLines, OutOfOrder, NoBytes, NoDrop}
 use Rattle.dt_run.proofs.Parts.{same_cut}
 use Rattle.dt_run.proofs.Spelling.{parts-spelling, spelling-free}

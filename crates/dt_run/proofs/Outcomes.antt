@@ -32,17 +32,17 @@ grown [] h = sym (append-nil h)
 grown (edit ∷ edits) h = grown_by h edit edits (grown edits) (step (after h) edit)
 
 -- accepted edits are numbered
-abbrev Numbered : List Edit → History → Type 0
-Numbered edits h = AreNumberedFrom (length h) (lines_from h edits)
+abbrev CountsUp : List Edit → History → Type 0
+CountsUp edits h = AreNumberedFrom (length h) (lines_from h edits)
 
-numbered_by : (h : History) (edit : Edit) (edits : List Edit) → ((g : History) → Numbered edits g) → (r : Result Program Why) → AreNumberedFrom (length h) (line_by (length h) r ∷ lines_from (history_by h edit r) edits)
-numbered_by h edit edits rest (Ok q) =
+counts_up_by : (h : History) (edit : Edit) (edits : List Edit) → ((g : History) → CountsUp edits g) → (r : Result Program Why) → AreNumberedFrom (length h) (line_by (length h) r ∷ lines_from (history_by h edit r) edits)
+counts_up_by h edit edits rest (Ok q) =
     (refl, subst (λ (n : ℕ). AreNumberedFrom n (lines_from (h ++ (edit ∷ []) ∷ []) edits)) (length-append h ((edit ∷ []) ∷ [])) (rest (h ++ (edit ∷ []) ∷ [])))
-numbered_by h edit edits rest (Err why) = rest h
+counts_up_by h edit edits rest (Err why) = rest h
 
-pub numbered : (edits : List Edit) (h : History) → Numbered edits h
-numbered [] h = tt
-numbered (edit ∷ edits) h = numbered_by h edit edits (numbered edits) (step (after h) edit)
+pub counts_up : (edits : List Edit) (h : History) → CountsUp edits h
+counts_up [] h = tt
+counts_up (edit ∷ edits) h = counts_up_by h edit edits (counts_up edits) (step (after h) edit)
 
 -- there are as many lines as edits
 pub as_many : (edits : List Edit) (h : History) → length (lines_from h edits) ≡ length (single edits)
@@ -101,7 +101,7 @@ performed_is_outcome edits calls =
     let all : take (length history) history ≡ history = take-length history in
     record {
       shape = (as_many edits [], parts_have_shape (after history) (length history) calls, tt);
-      versions = (refl, numbered edits [], omega (arith, ap length told), refl);
+      versions = (refl, counts_up edits [], omega (arith, ap length told), refl);
       edits = subst (λ (x : History). EditsStepFrom x 0 (single edits) (lines_from [] edits) × Unit {0}) whole (stepping history edits [] told, tt);
       calls = subst (λ (x : History). PartsAreAnswered x (length history) (parts_of calls) (part_logs (after history) (length history) calls) × Unit {0}) whole (parts_are_answered history (after history) (length history) (ap after (sym all)) calls, tt);
     }

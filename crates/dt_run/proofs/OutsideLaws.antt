@@ -1,10 +1,8 @@
 -- The laws of counts, losses and prefixes over two calls.
-use Rattle.std.proofs.Common.{◌≡◌, ℕ, ◌+◌, ◌<◌, ◌≤◌, Bool, true, false, nat_lt, List, [], ◌∷◌, ◌++◌, length, take, Option, Some, None, ◌⊎◌, inl, inr, refl, sym, ap, ◌∙◌, arith, append_assoc, append-nil, length-append, zero-add, suc-add}
+use Rattle.std.proofs.Common.{◌≡◌, ℕ, ◌+◌, ◌<◌, ◌≤◌, Bool, true, false, nat_lt, List, [], ◌∷◌, ◌++◌, length, take, Some, None, ◌⊎◌, inl, inr, refl, sym, ap, ◌∙◌, arith, append_assoc, append-nil, length-append, zero-add, suc-add}
 use Rattle.std.proofs.lemmas.Bool.Decides.{nat_tests}
 use Rattle.std.proofs.Math.Seq.{take-length}
 use Rattle.dt_run.specs.Outside.{last_count, Rose}
-use Rattle.dt_run.specs.Reading.{LosesAtMost}
-use Rattle.dt_run.specs.Putting.{AppendsPrefix}
 use Rattle.dt_run.specs.OutsideLaws.{SameCountRoseAtLast, RoseInOneOfTwo, RoseOverTwo, LosingNoneIsKeeping, KeepingIsLosingNone, LossesAddUp, WholeIsPrefix, NothingIsPrefix, PrefixesAddUp, ToldWholeWhereCalm}
 
 pub same_count_rose_at_last : SameCountRoseAtLast

@@ -95,32 +95,15 @@ same_line a b names names' e =
     sym (from-words a) ∙ ap line_from words ∙ from-words b
 
 -- what is read from the words is read from the bytes
-pub spelled : (bytes : List ℕ) (words : List (List ℕ)) (found : Option code.Line) → parts_at 32 bytes ≡ words → IsLineOf words found
+pub spelled : (bytes : List ℕ) (found : Option code.Line) → IsLineOf (parts_at 32 bytes) found
     → IfSome found (λ line. (bytes ≡ spelling (shown line)) × IsTrue (has_names (shown line)))
-spelled bytes words None e is = tt
-spelled bytes words (Some line) e is =
-    (sym (join_with_byte-slice_split 32 bytes) ∙ ap (join_with_byte 32) (e ∙ sym is.0), is.1)
+spelled bytes None is = tt
+spelled bytes (Some line) is = (sym (join_with_byte-slice_split 32 bytes) ∙ ap (join_with_byte 32) (sym is.0), is.1)
 
-pub unspelled : (bytes : List ℕ) (words : List (List ℕ)) (found : Option code.Line) → parts_at 32 bytes ≡ words → IsLineOf words found
+pub unspelled : (bytes : List ℕ) (found : Option code.Line) → IsLineOf (parts_at 32 bytes) found
     → IfNone found ((line : Line) → IsTrue (has_names line) → bytes ≡ spelling line → ⊥)
-unspelled bytes words None e is = λ line names spelled. is line names (sym (parts-spelling line names) ∙ ap (parts_at 32) (sym spelled) ∙ e)
-unspelled bytes words (Some line) e is = tt
-
--- no line has more than five words
-few_words : (line : Line) → length (words_of line) ≤ 5
-few_words Header = omega arith
-few_words (Class name) = omega arith
-few_words (Subclass name parent) = omega arith
-few_words (Selector name) = omega arith
-few_words (Define selector class body) = omega arith
-few_words Caller = omega arith
-few_words (Call selector class) = omega arith
-few_words End = omega arith
-
-pub too_many_words : (bytes : List ℕ) → 5 < length (parts_at 32 bytes) → (line : Line) → IsTrue (has_names line) → bytes ≡ spelling line → ⊥
-too_many_words bytes more line names e =
-    let words : parts_at 32 bytes ≡ words_of line = ap (parts_at 32) e ∙ parts-spelling line names in
-    omega (arith, few_words line, ap length words)
+unspelled bytes None is = λ line names spelled. is line names (sym (parts-spelling line names) ∙ ap (parts_at 32) (sym spelled))
+unspelled bytes (Some line) is = tt
 
 -- bytes whose first line has no meaning begin with no line
 pub no_next : (bytes front rest : List ℕ) → IsTrue (is_free_of 10 front) → bytes ≡ front ++ 10 ∷ rest

@@ -3,15 +3,15 @@ use Rattle.std.proofs.Common.{◌≡◌, ℕ, Bool, true, false, ◌||◌, List,
 use Rattle.dt_definitions.specs.declared.edit.Edit.TheVariants as edit
 use Rattle.dt_run.specs.Line.{Subclass}
 use Rattle.dt_run.specs.Numbering.{NameBook, with_class, number_in}
-use Rattle.dt_run.specs.Numbered.{Takes}
-use Rattle.dt_run.specs.declared.numbered.Numbered.{Numbered}
-use Rattle.dt_run.proofs.Numbers.{number_stays}
+use Rattle.dt_run.specs.ScriptBuilder.{Takes}
+use Rattle.dt_run.specs.declared.script_builder.ScriptBuilder.{ScriptBuilder}
+use Rattle.dt_run.proofs.NumbersStay.{number_stays}
 
 or-false : (b : Bool) → b ≡ (b || false)
 or-false true = refl
 or-false false = refl
 
-pub takes_subclass : (old new : Numbered) (name parent : List ℕ) (class above : ℕ) (parents : List ℕ) (book : NameBook)
+pub takes_subclass : (old new : ScriptBuilder) (name parent : List ℕ) (class above : ℕ) (parents : List ℕ) (book : NameBook)
     → book ≡ with_class old.names name → class ≡ number_in book.classes name
     → new.names ≡ with_class book parent → above ≡ number_in new.names.classes parent → parents ≡ above ∷ []
     → new.edits.items ≡ old.edits.items ++ edit.AddClass class parents ∷ []

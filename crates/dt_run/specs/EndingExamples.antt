@@ -1,5 +1,5 @@
 -- Small worked examples of what endings say.
-use Rattle.std.specs.Prelude.{◌≡◌, ℕ, zero, suc, ◌<◌, ◌≤◌, List, [], ◌∷◌, ◌++◌, length, take, map, codes, Option, None, Some, refl}
+use Rattle.std.specs.Prelude.{◌≡◌, ℕ, zero, suc, List, [], ◌∷◌, ◌++◌, take, map, codes, Option, None, Some, refl}
 use Rattle.std.specs.Fmt.{digits}
 use Rattle.std.specs.List.{join_with_byte}
 use Rattle.std.proofs.Common.{◌∙◌, ap, arith, lit<, lit≤}
@@ -7,7 +7,7 @@ use Rattle.dt_run.specs.Status.{number_of}
 use Rattle.dt_run.specs.declared.status.Status.{Status}
 use Rattle.dt_run.specs.declared.status.Status.TheVariants.{Done, Usage, Script, ReadFault, WriteFault, NoMemory}
 use Rattle.dt_run.specs.Log.{Log}
-use Rattle.dt_run.specs.Run.{run_words, usage_text, script_text, read_text, memory_text, IsNoScript, IsRunOf, Told, WereRead, IsDone, IsCutShort, IsHanded}
+use Rattle.dt_run.specs.Run.{run_words, usage_text, script_text, read_text, memory_text, IsRunOf, Told, WereRead, IsDone, IsCutShort, IsHanded}
 use Rattle.dt_run.specs.OutcomeExamples.{log_of, override_log}
 use Rattle.dt_run.specs.TextExamples.{smallest_run, override_run}
 

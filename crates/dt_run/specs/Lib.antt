@@ -12,8 +12,8 @@ pub mod FirstScriptExamples
 pub mod Numbering
 pub mod Script
 pub mod Stage
-pub mod Numbered
-pub mod InNumbers
+pub mod ScriptBuilder
+pub mod BuiltScript
 pub mod Log
 pub mod Outcome
 pub mod OutcomeExamples

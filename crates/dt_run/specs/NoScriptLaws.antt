@@ -1,5 +1,5 @@
 -- Laws of bytes that are no script.
-use Rattle.std.specs.Prelude.{ℕ, ◌<◌, IsTrue, List, [], ◌∷◌, ◌++◌, length, codes}
+use Rattle.std.specs.Prelude.{ℕ, ◌<◌, IsTrue, List, [], ◌++◌, length, codes}
 use Rattle.std.specs.List.{list_all}
 use Rattle.dt_run.specs.Line.{Line, has_names}
 use Rattle.dt_run.specs.FirstScript.{IsInOrder, text_of_lines, IsFirstScript}

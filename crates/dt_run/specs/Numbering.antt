@@ -58,11 +58,15 @@ edit_in book (Define selector class body) =
     Some (edit.Define (number_in book.selectors selector) (number_in book.classes class ∷ []) (number_in book.bodies body))
 edit_in book _ = None
 
+-- what some lines give, by the book before them: each gives something, or nothing, by the book after it
+abbrev pub given_from : {A : Type 0} → (NameBook → Line → Option A) → NameBook → List Line → List A
+given_from give book [] = []
+given_from give book (line ∷ lines) =
+    cons_option (give (book_after book line) line) (given_from give (book_after book line) lines)
+
 -- the edits of some lines, by the book before them
 abbrev pub edits_from : NameBook → List Line → List Edit
-edits_from book [] = []
-edits_from book (line ∷ lines) =
-    cons_option (edit_in (book_after book line) line) (edits_from (book_after book line) lines)
+edits_from book lines = given_from edit_in book lines
 
 -- the query of a line, by the book after the line
 abbrev pub query_in : NameBook → Line → Option Query
@@ -72,6 +76,4 @@ query_in book _ = None
 
 -- the queries of some lines, by the book before them
 abbrev pub queries_from : NameBook → List Line → List Query
-queries_from book [] = []
-queries_from book (line ∷ lines) =
-    cons_option (query_in (book_after book line) line) (queries_from (book_after book line) lines)
+queries_from book lines = given_from query_in book lines

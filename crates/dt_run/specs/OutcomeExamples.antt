@@ -5,7 +5,7 @@ use Rattle.dt_definitions.specs.Program.{Program}
 use Rattle.dt_definitions.specs.Step.{step_batch, after, Refused as Refusal}
 use Rattle.dt_definitions.specs.declared.edit.Edit.{Edit}
 use Rattle.dt_definitions.specs.declared.edit.Edit.TheVariants.{AddClass}
-use Rattle.dt_definitions.specs.declared.why.Why.TheVariants.{ClassExists, ClassUnknown}
+use Rattle.dt_definitions.specs.declared.why.Why.TheVariants.{ClassExists, ClassUnknown, Cycle, SelectorExists, SelectorUnknown, ArityDiffers}
 use Rattle.dt_scratch.specs.Resolve.{reply}
 use Rattle.dt_scratch.specs.declared.reply.Answer.TheVariants.{Method, NotUnderstood}
 use Rattle.dt_scratch.specs.declared.reply.Reply.TheVariants.{NoSelector, Answered}
@@ -13,10 +13,11 @@ use Rattle.dt_run.specs.Line.{Line, Header, Class, Subclass, Selector, Define, C
 use Rattle.dt_run.specs.Script.{script_of}
 use Rattle.dt_run.specs.Log.{Log, PartLog}
 use Rattle.dt_run.specs.Outcome.{history_of, Outcome}
+use Rattle.dt_run.specs.FirstLaws.{IsFirstRefusal, AreFirstLines, AreFirstPhases}
 use Rattle.dt_run.specs.declared.log.CallLine.{CallLine}
 use Rattle.dt_run.specs.declared.log.CallLine.TheVariants.{Called, CallWorn}
 use Rattle.dt_run.specs.declared.log.EditLine.{EditLine}
-use Rattle.dt_run.specs.declared.log.EditLine.TheVariants.{Accepted, Refused}
+use Rattle.dt_run.specs.declared.log.EditLine.TheVariants.{Accepted, Refused, VersionsFull}
 
 -- the log of one phase that ends at this version
 abbrev pub log_of : ℕ → List EditLine → List PartLog → Log
@@ -198,3 +199,36 @@ two_phases_one_history : history_of
     ∷ record { from = 1; to = 2; edits = Accepted 2 ∷ []; callers = [] } ∷ [])
     ≡ (first_edit ∷ []) ∷ (second_edit ∷ []) ∷ []
 two_phases_one_history = refl
+
+-- ---- each of the four refusals that a first script can meet
+
+abbrev four_lines : List Line
+four_lines =
+    Header ∷ Class (codes "A") ∷ Class (codes "A") ∷ Subclass (codes "B") (codes "C") ∷ Selector (codes "f") ∷ Selector (codes "f")
+    ∷ Define (codes "g") (codes "A") (codes "ga") ∷ End ∷ []
+
+abbrev four_log : Log
+four_log = log_of 2
+    (Accepted 1 ∷ Refused 1 ClassExists ∷ Refused 1 (ClassUnknown 2) ∷ Accepted 2 ∷ Refused 1 SelectorExists ∷ Refused 1 SelectorUnknown ∷ [])
+    []
+
+four_is_outcome : Outcome (script_of four_lines) four_log
+four_is_outcome = record {
+  shape = (refl, tt, tt);
+  versions = (refl, (refl, (refl, tt)), refl, refl);
+  edits = ((refl, (refl, (refl, (refl, (refl, (refl, tt)))))), tt);
+  calls = (tt, tt);
+}
+
+four_are_first : AreFirstPhases four_log.phases
+four_are_first = ((tt, (tt, (tt, (tt, tt)))), tt)
+
+-- and no other
+no_cycle : IsFirstRefusal Cycle → ⊥
+no_cycle first = first
+
+no_other_arity : AreFirstLines (Accepted 1 ∷ Refused 1 ArityDiffers ∷ []) → ⊥
+no_other_arity first = first.0
+
+no_full_versions : AreFirstLines (VersionsFull ∷ []) → ⊥
+no_full_versions first = first

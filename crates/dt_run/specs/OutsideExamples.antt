@@ -1,5 +1,5 @@
 -- Small worked examples of counts of faults, of what sources lose and of what sinks take.
-use Rattle.std.specs.Prelude.{◌≡◌, ℕ, zero, suc, ◌+◌, ◌-◌, ◌^◌, ◌<◌, List, [], ◌∷◌, length, codes, true, false, None, Some, Ok, Err, refl}
+use Rattle.std.specs.Prelude.{◌≡◌, ℕ, zero, suc, ◌+◌, ◌-◌, ◌^◌, List, [], ◌∷◌, length, codes, true, false, None, Some, Ok, Err, refl}
 use Rattle.std.proofs.Common.{ap, arith, lit<, lit≤, length-append, length-take}
 use Rattle.dt_run.specs.Outside.{last_count, Rose}
 use Rattle.dt_run.specs.Reading.{LosesAtMost}

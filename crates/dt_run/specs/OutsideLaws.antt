@@ -1,5 +1,5 @@
 -- Laws of counts of faults, of what a source loses and of what a sink takes, over two calls.
-use Rattle.std.specs.Prelude.{◌≡◌, ℕ, ◌+◌, ◌<◌, ◌≤◌, List, ◌++◌, Option, ◌⊎◌}
+use Rattle.std.specs.Prelude.{ℕ, ◌+◌, ◌<◌, ◌≤◌, List, ◌++◌, Option, ◌⊎◌}
 use Rattle.std.specs.Io.KnownBytes.{Keeps, Appends}
 use Rattle.dt_run.specs.Outside.{last_count, Rose}
 use Rattle.dt_run.specs.Reading.{LosesAtMost}

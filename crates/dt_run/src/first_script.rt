@@ -1,13 +1,13 @@
 ghost use Rattle.std.specs.Prelude.{◌≡◌, List, IfOk, OnOk, IsErrOf};
 ghost use Rattle.dt_run.specs.Line as line;
 ghost use Rattle.dt_run.specs.FirstScript.{IsFirstScript};
-ghost use Rattle.dt_run.specs.Numbered.{IsStart};
-ghost use Rattle.dt_run.specs.InNumbers.{AreNumbers, IsNumbered, IsScriptOf};
+ghost use Rattle.dt_run.specs.ScriptBuilder.{HoldsNothing};
+ghost use Rattle.dt_run.specs.BuiltScript.{HoldsLines, IsScriptOfLines, IsBuiltBy};
 
 use crate::limits::SCRIPT_LINES;
 use crate::line::next_line;
 use crate::name_book::NameBook;
-use crate::numbered::Numbered;
+use crate::script_builder::ScriptBuilder;
 use crate::stage::Stage;
 use dt_definitions::{Edit, NoMemory};
 use dt_scratch::Query;
@@ -48,20 +48,20 @@ impl From<NoMemory> for ScriptFault {
 ///
 /// [`Malformed`](ScriptFault::Malformed) exactly where the bytes are no first script, unless memory was wanted.
 pub fn read_first_script(alloc: Global, bytes: &[u8]) -> Result<FirstScript, ScriptFault>
-    ensures script { IfOk result (λ script. (lines : List line.Line) × IsFirstScript bytes.now lines × IsNumbered lines script) }
+    ensures script { IfOk result (λ script. (lines : List line.Line) × IsFirstScript bytes.now lines × IsScriptOfLines lines script) }
     ensures fault { IsErrOf result ScriptFault.Malformed → (lines : List line.Line) → IsFirstScript bytes.now lines → ⊥ }
 {
-    let mut numbered = Numbered::new(alloc)?;
-    match read_lines(alloc, bytes, &mut numbered) {
-        Ok(()) => Ok(script_of(numbered)),
+    let mut builder = ScriptBuilder::new(alloc)?;
+    match read_lines(alloc, bytes, &mut builder) {
+        Ok(()) => Ok(script_of(builder)),
         Err(fault) => Err(fault),
     }
 }
 
 // Takes the lines of a first script.
-fn read_lines(alloc: Global, bytes: &[u8], numbered: &mut Numbered) -> Result<(), ScriptFault>
-    requires { IsStart numbered.old }
-    ensures script { OnOk result ((lines : List line.Line) × IsFirstScript bytes.now lines × AreNumbers lines numbered.new) }
+fn read_lines(alloc: Global, bytes: &[u8], builder: &mut ScriptBuilder) -> Result<(), ScriptFault>
+    requires { HoldsNothing builder.old }
+    ensures script { OnOk result ((lines : List line.Line) × IsFirstScript bytes.now lines × HoldsLines lines builder.new) }
     ensures fault { IsErrOf result ScriptFault.Malformed → (lines : List line.Line) → IsFirstScript bytes.now lines → ⊥ }
 {
     let mut stage = Stage::Start;
@@ -78,7 +78,7 @@ fn read_lines(alloc: Global, bytes: &[u8], numbered: &mut Numbered) -> Result<()
         if full {
             return Err(ScriptFault::Malformed);
         }
-        numbered.take(alloc, line)?;
+        builder.take(alloc, line)?;
         stage = next;
         rest = after;
         lines += 1;
@@ -90,15 +90,15 @@ fn read_lines(alloc: Global, bytes: &[u8], numbered: &mut Numbered) -> Result<()
 }
 
 // The script of all its lines in numbers.
-fn script_of(numbered: Numbered) -> FirstScript
-    ensures { IsScriptOf numbered result }
+fn script_of(builder: ScriptBuilder) -> FirstScript
+    ensures { IsBuiltBy builder result }
 {
-    let Numbered {
+    let ScriptBuilder {
         names,
         edits,
         has_caller,
         queries,
-    } = numbered;
+    } = builder;
     let calls = if has_caller { Some(queries) } else { None };
     FirstScript {
         names,

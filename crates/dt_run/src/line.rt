@@ -1,6 +1,7 @@
 ghost use Rattle.std.specs.Prelude.{◌≡◌, ℕ, List, [], ◌∷◌, ◌++◌, IsTrue, IfSome, IfNone};
 ghost use Rattle.dt_run.specs.Line as line;
 ghost use Rattle.dt_run.specs.Line.{words_of, spelling, has_names};
+ghost use Rattle.dt_run.specs.Words.{AreWords};
 ghost use Rattle.dt_run.specs.ShownLine.{shown, IsLineOf};
 
 use crate::cut::cut;
@@ -60,7 +61,14 @@ pub fn read_line(bytes: &[u8]) -> Option<Line<'_>>
     ensures spelled { IfSome result (λ line. (bytes.now ≡ spelling (shown line)) × IsTrue (has_names (shown line))) }
     ensures none { IfNone result ((line : line.Line) → IsTrue (has_names line) → bytes.now ≡ spelling line → ⊥) }
 {
-    match words_of_line(bytes) {
+    line_of_words(words_of_line(bytes))
+}
+
+// The line of these words.
+fn line_of_words(words: Words<'_>) -> Option<Line<'_>>
+    ensures { (texts : List (List ℕ)) → AreWords words.entry texts → IsLineOf texts result }
+{
+    match words {
         Words::One(word) => line_of_one(word),
         Words::Two(first, second) => line_of_two(first, second),
         Words::Three(first, second, third) => line_of_three(first, second, third),

@@ -35,7 +35,7 @@ returns-then-full-clause-fault c = λ _ lines is.
 pub returns-in-Ended-clause-script : goal.returns-in-Ended-clause-script
 returns-in-Ended-clause-script c =
     let empty : c.loop-rest.rest.now ≡ [] = empty_from_length _ (grind (arith, nat_tests)) in
-    all_read _ _ _ _ _ (subst (λ stage. HasRead c.args.bytes.now c.loop-rest.rest.now c.loop-rest.lines stage c.loop-rest.numbered c.loop-rest.invariant.0) c.in-Ended.is c.loop-rest.invariant.1) empty
+    all_read _ _ _ _ _ (subst (λ stage. HasRead c.args.bytes.now c.loop-rest.rest.now c.loop-rest.lines stage c.loop-rest.builder c.loop-rest.invariant.0) c.in-Ended.is c.loop-rest.invariant.1) empty
 
 pub returns-in_default-stage-clause-fault : goal.returns-in_default-stage-clause-fault
 returns-in_default-stage-clause-fault c = λ _ lines is.

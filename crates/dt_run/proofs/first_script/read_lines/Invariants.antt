@@ -5,7 +5,7 @@ use Rattle.dt_run.proofs.LinesRead.{HasRead}
 use Rattle.dt_run.proofs.first_script.read_lines.Given as goal
 
 abbrev pub invariant-loop-rest : goal.invariant-loop-rest
-invariant-loop-rest l = (read : List Line) × HasRead l.bytes l.rest l.lines l.stage l.numbered read
+invariant-loop-rest l = (read : List Line) × HasRead l.bytes l.rest l.lines l.stage l.builder read
 
 abbrev pub decreases-loop-rest : goal.decreases-loop-rest
 decreases-loop-rest l = SCRIPT_LINES - l.lines

@@ -1,7 +1,7 @@
 use Rattle.std.proofs.Common.{length, ap, refl, arith}
-use Rattle.dt_run.proofs.Numbers.{length-with_text}
+use Rattle.dt_run.proofs.NumbersStay.{length-with_text}
 use Rattle.dt_run.proofs.Taking.{takes_subclass}
-use Rattle.dt_run.proofs.numbered.Numbered.take_subclass.Goals as goal
+use Rattle.dt_run.proofs.script_builder.ScriptBuilder.take_subclass.Goals as goal
 
 pub class_in-requires-2-clause-room : goal.class_in-requires-2-clause-room
 class_in-requires-2-clause-room c =

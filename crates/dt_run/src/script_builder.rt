@@ -4,7 +4,7 @@ ghost use Rattle.dt_run.specs.Line as line;
 ghost use Rattle.dt_run.specs.Line.{has_names};
 ghost use Rattle.dt_run.specs.ShownLine.{shown};
 ghost use Rattle.dt_run.specs.Numbering.{empty_book, with_class, with_selector, with_body, number_in};
-ghost use Rattle.dt_run.specs.Numbered.{HasRoom, IsStart, Takes};
+ghost use Rattle.dt_run.specs.ScriptBuilder.{HasRoom, HoldsNothing, Takes};
 
 use crate::line::Line;
 use crate::name_book::NameBook;
@@ -17,19 +17,19 @@ use std::alloc::Global;
 
 /// The lines of a script so far, in numbers: their names, their edits, whether a caller is among them, and its queries.
 #[derive(Drop)]
-pub struct Numbered {
+pub struct ScriptBuilder {
     pub names: NameBook,
     pub edits: Vec<Edit>,
     pub has_caller: bool,
     pub queries: Vec<Query>,
 }
 
-impl Numbered {
+impl ScriptBuilder {
     /// No line yet.
-    pub fn new(alloc: Global) -> Result<Numbered, NoMemory>
-        ensures { IfOk result (λ numbered. IsStart numbered) }
+    pub fn new(alloc: Global) -> Result<ScriptBuilder, NoMemory>
+        ensures { IfOk result (λ builder. HoldsNothing builder) }
     {
-        Ok(Numbered {
+        Ok(ScriptBuilder {
             names: NameBook::new(alloc)?,
             edits: Vec::new(alloc),
             has_caller: false,

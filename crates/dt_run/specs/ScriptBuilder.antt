@@ -5,7 +5,7 @@ use Rattle.dt_run.specs.Numbering.{NameBook, empty_book, book_after, edit_in, qu
 use Rattle.dt_run.specs.Script.{is_caller}
 use Rattle.dt_graph.specs.declared.limits.TheConstants.{CLASSES}
 use Rattle.dt_selectors.specs.declared.limits.TheConstants.{SELECTORS, BODIES}
-use Rattle.dt_run.specs.declared.numbered.Numbered.{Numbered}
+use Rattle.dt_run.specs.declared.script_builder.ScriptBuilder.{ScriptBuilder}
 
 -- there is room for the names of one more line, whichever it is
 pub record HasRoom (book : NameBook) : Type 0 where
@@ -14,14 +14,14 @@ pub record HasRoom (book : NameBook) : Type 0 where
   pub bodies : length book.bodies + 1 ≤ BODIES
 
 -- no line was taken
-pub record IsStart (numbered : Numbered) : Type 0 where
-  pub names : numbered.names ≡ empty_book
-  pub edits : numbered.edits.items ≡ []
-  pub has_caller : numbered.has_caller ≡ false
-  pub queries : numbered.queries.items ≡ []
+pub record HoldsNothing (builder : ScriptBuilder) : Type 0 where
+  pub names : builder.names ≡ empty_book
+  pub edits : builder.edits.items ≡ []
+  pub has_caller : builder.has_caller ≡ false
+  pub queries : builder.queries.items ≡ []
 
 -- the line was taken: its names are in the book, and its edit or query comes last
-pub record Takes (old : Numbered) (line : Line) (new : Numbered) : Type 0 where
+pub record Takes (old : ScriptBuilder) (line : Line) (new : ScriptBuilder) : Type 0 where
   pub names : new.names ≡ book_after old.names line
   pub edits : new.edits.items ≡ old.edits.items ++ option_to_list (edit_in (book_after old.names line) line)
   pub has_caller : new.has_caller ≡ (old.has_caller || is_caller line)
