@@ -4,7 +4,7 @@ use Rattle.std.specs.Result.{result_unwrap_or}
 use Rattle.dt_graph.specs.Refusal.{ok_unless}
 use Rattle.dt_definitions.specs.Program.{Program, empty_program}
 use Rattle.dt_definitions.specs.Step.{refusal, effect, step, step_batch, stepped, after, after_from, and_then, Refused, Applies, AppliesBatch}
-use Rattle.dt_definitions.specs.AnswerLaws.{Answer, BatchAnswer, IsDecided, IsDecidedBatch, EditsHaveOneAnswer, EditsHaveAnAnswer, OkHasNoCause, RefusalsAreTheFirstCause, OkAloneChanges, BatchesHaveOneAnswer, BatchesHaveAnAnswer, OkAloneChangesByBatch, OneEditIsABatch, BatchesGoOn, BatchesEnd, LaterEditsDontCount, HistoriesGoOn, BatchesMakeHistories}
+use Rattle.dt_definitions.specs.AnswerLaws.{EditAnswer, BatchAnswer, IsDecided, IsDecidedBatch, EditsHaveOneAnswer, EditsHaveAnAnswer, OkHasNoCause, RefusalsAreTheFirstCause, OkAloneChanges, BatchesHaveOneAnswer, BatchesHaveAnAnswer, OkAloneChangesByBatch, OneEditIsABatch, BatchesGoOn, BatchesEnd, LaterEditsDontCount, HistoriesGoOn, BatchesMakeHistories}
 use Rattle.dt_definitions.specs.declared.edit.Edit.{Edit}
 use Rattle.dt_definitions.specs.declared.why.Why.{Why}
 use Rattle.dt_definitions.specs.declared.why.ApplyFault.TheVariants as apply_fault
@@ -28,7 +28,7 @@ edits_have_one_answer old p q edit (Err (apply_fault.Refused why)) (Err apply_fa
 -- the answer that a step decides
 record Decided (old : Program) (edit : Edit) : Type 0 where
   new : Program
-  answer : Answer
+  answer : EditAnswer
   decided : IsDecided answer
   applies : Applies old edit new answer
 

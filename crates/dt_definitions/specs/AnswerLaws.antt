@@ -10,15 +10,15 @@ use Rattle.dt_definitions.specs.declared.why.BatchFault.{BatchFault}
 use Rattle.dt_definitions.specs.declared.why.BatchFault.TheVariants as batch_fault
 
 -- what an edit is answered
-abbrev pub Answer : Type 0
-Answer = Result (Unit {0}) ApplyFault
+abbrev pub EditAnswer : Type 0
+EditAnswer = Result (Unit {0}) ApplyFault
 
 -- what a batch is answered
 abbrev pub BatchAnswer : Type 0
 BatchAnswer = Result (Unit {0}) BatchFault
 
 -- the answer of an edit isn't want of memory
-abbrev pub IsDecided : Answer → Type 0
+abbrev pub IsDecided : EditAnswer → Type 0
 IsDecided answer = answer ≡ Err apply_fault.NoMemory → ⊥
 
 -- the answer of a batch isn't want of memory
@@ -29,13 +29,13 @@ IsDecidedBatch answer = answer ≡ Err batch_fault.NoMemory → ⊥
 
 -- an edit has one answer and leaves one program, but for want of memory
 abbrev pub EditsHaveOneAnswer : Type 0
-EditsHaveOneAnswer = (old p q : Program) (edit : Edit) (a b : Answer)
+EditsHaveOneAnswer = (old p q : Program) (edit : Edit) (a b : EditAnswer)
     → IsDecided a → IsDecided b → Applies old edit p a → Applies old edit q b → (a ≡ b) × (p ≡ q)
 
 -- and it has such an answer
 abbrev pub EditsHaveAnAnswer : Type 0
 EditsHaveAnAnswer = (old : Program) (edit : Edit)
-    → (new : Program) × (answer : Answer) × IsDecided answer × Applies old edit new answer
+    → (new : Program) × (answer : EditAnswer) × IsDecided answer × Applies old edit new answer
 
 -- at Ok no cause of a refusal holds, and the program is the one that the edit makes
 abbrev pub OkHasNoCause : Type 0
@@ -69,13 +69,13 @@ OkAloneChangesByBatch = (old new : Program) (edits : List Edit) (fault : BatchFa
     → AppliesBatch old edits new (Err fault) → new ≡ old
 
 -- the answer of a batch whose edit at this place has the answer
-abbrev pub answer_at : ℕ → Answer → BatchAnswer
+abbrev pub answer_at : ℕ → EditAnswer → BatchAnswer
 answer_at place (Ok _) = Ok tt
 answer_at place (Err fault) = Err (fault_at place fault)
 
 -- a batch of one edit is answered as its edit is, at place 1
 abbrev pub OneEditIsABatch : Type 0
-OneEditIsABatch = (old new : Program) (edit : Edit) (answer : Answer)
+OneEditIsABatch = (old new : Program) (edit : Edit) (answer : EditAnswer)
     → Applies old edit new answer → AppliesBatch old (edit ∷ []) new (answer_at 1 answer)
 
 -- a batch that is accepted goes on with one more edit: where that is accepted too, to the program that it leaves

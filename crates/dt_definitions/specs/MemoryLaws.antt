@@ -4,7 +4,7 @@ use Rattle.dt_definitions.specs.Program.{Program}
 use Rattle.dt_definitions.specs.Lawful.{Lawful}
 use Rattle.dt_definitions.specs.Step.{step}
 use Rattle.dt_definitions.specs.Memory.{may_want_memory, NoMemoryOnlyWhere, BatchNoMemoryOnlyWhere}
-use Rattle.dt_definitions.specs.AnswerLaws.{Answer, BatchAnswer, IsDecided, IsDecidedBatch}
+use Rattle.dt_definitions.specs.AnswerLaws.{EditAnswer, BatchAnswer, IsDecided, IsDecidedBatch}
 use Rattle.dt_definitions.specs.declared.edit.Edit.{Edit}
 use Rattle.dt_definitions.specs.declared.why.Why.{Why}
 
@@ -24,7 +24,7 @@ RefusedEditsTakeNone = (p : Program) (edit : Edit) (why : Why) → step p edit �
 
 -- where the test fails, the answer of an edit isn't want of memory
 abbrev pub WithoutTheTestDecided : Type 0
-WithoutTheTestDecided = (answer : Answer) → NoMemoryOnlyWhere false answer → IsDecided answer
+WithoutTheTestDecided = (answer : EditAnswer) → NoMemoryOnlyWhere false answer → IsDecided answer
 
 -- and nor is that of a batch
 abbrev pub WithoutTheTestDecidedBatch : Type 0
@@ -32,7 +32,7 @@ WithoutTheTestDecidedBatch = (answer : BatchAnswer) → BatchNoMemoryOnlyWhere f
 
 -- an edit's answer that isn't want of memory is free of the test
 abbrev pub DecidedIsFree : Type 0
-DecidedIsFree = (test : Bool) (answer : Answer) → IsDecided answer → NoMemoryOnlyWhere test answer
+DecidedIsFree = (test : Bool) (answer : EditAnswer) → IsDecided answer → NoMemoryOnlyWhere test answer
 
 -- and so is a batch's
 abbrev pub DecidedBatchIsFree : Type 0
