@@ -34,7 +34,8 @@ impl Batch {
         }
     }
 
-    /// Puts the edit last. For want of memory it is handed back, and the batch is as it was.
+    /// Puts the edit last. For want of memory it is handed back, and the batch is as it was. The batch has fewer than
+    /// 2^31 edits.
     pub fn push(&mut self, edit: Edit) -> Result<(), Edit>
         requires { length self.old < 2 ^ 31 }
         ensures ok { OnOk result (self.new ≡ self.old ++ edit ∷ []) }
@@ -82,7 +83,7 @@ impl Batch {
         *self.edits.allocator()
     }
 
-    /// An equal batch.
+    /// An equal batch, with memory of its own; [`NoMemory`] where none was found.
     pub fn copy(&self) -> Result<Batch, NoMemory>
         ensures { IfOk result (λ batch. batch ≡ self.now) }
     {

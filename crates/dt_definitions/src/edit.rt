@@ -11,41 +11,56 @@ use dt_selectors::{Arity, BodyNo, SelNo};
 pub enum Edit {
     /// A new class with these parents.
     AddClass {
+        /// The class.
         class: ClassNo,
+        /// Its parents. More than 16 are refused when the edit is applied.
         parents: Parents,
     },
     /// A class goes.
     DropClass {
+        /// The class that goes.
         class: ClassNo,
     },
     /// The class gets one more parent.
     Link {
+        /// The class below.
         class: ClassNo,
+        /// The class above.
         parent: ClassNo,
     },
     /// The class loses a parent.
     Unlink {
+        /// The class below.
         class: ClassNo,
+        /// The class above.
         parent: ClassNo,
     },
     /// A new selector with this arity.
     AddSelector {
+        /// The selector.
         selector: SelNo,
+        /// How many arguments it takes.
         arity: Arity,
     },
     /// A selector goes.
     DropSelector {
+        /// The selector that goes.
         selector: SelNo,
     },
     /// The selector gets this body at these classes; the body that it had there is replaced.
     Define {
+        /// The selector.
         selector: SelNo,
+        /// The classes, one for each argument.
         classes: Tuple,
+        /// The body that answers there from now on.
         body: BodyNo,
     },
     /// The selector loses its body at these classes.
     Undefine {
+        /// The selector.
         selector: SelNo,
+        /// The classes, one for each argument.
         classes: Tuple,
     },
 }

@@ -19,7 +19,7 @@ impl Model for Parents {
 }
 
 impl Parents {
-    /// These parents.
+    /// These parents in this order, however many. [`NoMemory`] where no memory was found.
     pub fn new(alloc: Global, classes: &[ClassNo]) -> Result<Parents, NoMemory>
         ensures { IfOk result (λ parents. parents ≡ classes.now) }
     {

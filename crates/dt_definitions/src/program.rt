@@ -42,7 +42,8 @@ impl Model for Program {
 }
 
 impl Program {
-    /// The program with nothing in it.
+    /// The program with nothing in it. What classes and selectors will ever need is taken here; [`NoMemory`] where none
+    /// was found.
     pub fn new(alloc: Global) -> Result<Program, NoMemory>
         ensures { IfOk result (λ program. program ≡ empty_program) }
     {
@@ -55,7 +56,7 @@ impl Program {
         Ok(Program { parts })
     }
 
-    /// An equal program.
+    /// An equal program, with memory of its own; [`NoMemory`] where none was found.
     pub fn copy(&self) -> Result<Program, NoMemory>
         ensures { IfOk result (λ program. program ≡ self.now) }
     {
@@ -81,7 +82,7 @@ impl Program {
         self.parts.selectors.arity(selector)
     }
 
-    /// How many definitions there are.
+    /// How many definitions there are, at most [`DEFINITIONS`](crate::DEFINITIONS).
     pub fn definitions(&self) -> u32
         ensures { result ≡ length self.now.definitions }
     {

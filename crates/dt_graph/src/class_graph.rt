@@ -38,7 +38,7 @@ impl Model for ClassGraph {
 }
 
 impl ClassGraph {
-    /// A graph with no class. All memory that it will ever need is taken here.
+    /// A graph with no class. All memory that changes will ever need is taken here; [`NoMemory`] where none was found.
     pub fn new(alloc: Global) -> Result<ClassGraph, NoMemory>
         ensures { IfOk result (λ g. g ≡ empty_graph) }
     {
@@ -103,8 +103,8 @@ impl ClassGraph {
         self.ancestry.holds(low, high)
     }
 
-    /// Appends the live classes at or below `class`, in ascending order. `class` itself need not be live. Where
-    /// memory is wanting, `out` is as it was.
+    /// Appends the live classes at or below `class`, in ascending order: none where `class` isn't live. [`NoMemory`]
+    /// where no memory was found; `out` is as it was then.
     pub fn descendants_into(&self, class: ClassNo, out: &mut Vec<ClassNo>) -> Result<(), NoMemory>
         ensures ok { OnOk result (out.new.items ≡ out.old.items ++ descendants self.now class) }
         ensures err { OnErr result (out.new.items ≡ out.old.items) }
@@ -131,7 +131,7 @@ impl ClassGraph {
         below.len()
     }
 
-    /// An equal graph.
+    /// An equal graph, with memory of its own; [`NoMemory`] where none was found.
     pub fn copy(&self) -> Result<ClassGraph, NoMemory>
         ensures { IfOk result (λ g. g ≡ self.now) }
     {
@@ -222,7 +222,8 @@ impl ClassGraph {
 
     /// The class is as it was before a change: live with these parents alone, or not live.
     ///
-    /// The graph that this leaves must be lawful, as it is where a change of this class alone is undone.
+    /// The graph that this leaves must be lawful, as it is where a change of this class alone is undone. There are at
+    /// most [`PARENTS`](crate::PARENTS) parents.
     pub fn restore(&mut self, class: ClassNo, is_live: bool, parents: &[ClassNo])
         requires few { length parents.now ≤ PARENTS }
         requires lawful { LawfulGraph (restore_effect self.old class is_live parents.now) }

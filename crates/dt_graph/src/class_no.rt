@@ -4,8 +4,8 @@ ghost use Rattle.std.specs.Option.{SomeIff};
 use crate::limits::CLASSES;
 use std::marker::Model;
 
-/// The number of a class, below [`CLASSES`]. It is the number of the class's name, so a class that is dropped
-/// and added again has the same number.
+/// The number of a class, below [`CLASSES`]; by default 0. Who numbers classes by their names gives a class that is
+/// dropped and added again the same number.
 #[derive(Clone, Copy, Debug, Default, PartialEq, Eq, PartialOrd, Ord)]
 pub struct ClassNo {
     number: u16,

@@ -24,7 +24,8 @@ impl<L: Ledger> Model for Steps<L> {
 }
 
 impl<L: Ledger> Steps<L> {
-    /// A count of 0, in the ledger that the blank becomes.
+    /// A count of 0, in the ledger that the blank becomes. The blank has that ledger's name and all its parts, one at
+    /// least.
     pub fn start(blank: Blank) -> Steps<L>
         requires name { blank.name ≡ L.name }
         requires parts { blank.parts ≡ L.parts }

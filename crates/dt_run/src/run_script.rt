@@ -27,7 +27,7 @@ use std::thread::Threads;
 pub struct Ran {
     /// How the run ended.
     pub status: Status,
-    /// What was performed.
+    /// What was performed: there at done and at a write fault alone.
     pub log: Option<Log>,
 }
 
@@ -131,11 +131,11 @@ fn run_source<S: Source, K: Sink, T: Turnstile>(
 ///
 /// The status tells how it ended. [`Status::Done`]: the bytes are a first script, the log is an outcome of it, and
 /// the sink took its text. [`Status::Usage`]: exactly where the words are others; the source wasn't read.
-/// [`Status::Script`]: the bytes to the end of the source, or more than a script may have, are no first script.
+/// [`Status::Script`]: the source gave more bytes than a script may have, or its bytes to the end are no first script.
 /// [`Status::ReadFault`]: the source failed.
 /// [`Status::WriteFault`]: the sink failed while the log was printed, and took a prefix of its text.
 /// [`Status::NoMemory`]: memory was wanted. Where the status is another than done or a write fault, the sink took the
-/// text of the fault, or a prefix of it where the sink failed. No call waits or retries.
+/// text of the fault, or a prefix of it where the sink failed. It starts no thread.
 pub fn run<H: Threads + Sync, S: Source, K: Sink, T: Turnstile>(
     _rt: &H,
     alloc: Global,

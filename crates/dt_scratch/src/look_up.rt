@@ -8,7 +8,9 @@ use crate::reply::Reply;
 use dt_definitions::Program;
 use dt_selectors::SelNo;
 
-/// The reply to a query, by look-up from scratch. It takes no memory.
+/// The reply to a query, by look-up from scratch. The first of these that holds: the selector isn't live; it takes another
+/// number of arguments; the class in a place, the first such, isn't live; else the answer of the applicable definitions. It
+/// takes no memory.
 #[tactic(auto, using(crate::proofs::LiveNumbers::no_selector))]
 pub fn resolve(program: &Program, query: &Query) -> Reply
     ensures { result ≡ reply program.now query.now }

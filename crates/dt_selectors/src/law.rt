@@ -3,8 +3,8 @@ ghost use Rattle.dt_selectors.specs.Selectors.{Selector, place_selector, without
 ghost use Rattle.dt_selectors.specs.Lawful.{LawfulSelector, LawfulSelectors};
 ghost use Rattle.dt_selectors.specs.Laws.{AddingSetsOneArity, DroppingUnsetsOneArity, KnownNamesStay, NewNamesAreLast, NumbersStay};
 
-/// No selectors are lawful, and lawful selectors stay so when one is placed among them or taken away. It does
-/// nothing: a caller whose reasoning needs this calls it.
+/// The empty list of selectors is lawful, and a lawful list stays so when a lawful selector is placed in it or one is
+/// taken away. It does nothing: a caller whose reasoning needs this calls it.
 pub fn changes_keep_law()
     ensures empty { LawfulSelectors [] }
     ensures add { (selectors : List Selector) (selector : Selector) → LawfulSelectors selectors

@@ -57,7 +57,7 @@ fn are_name_bytes(text: &[u8]) -> bool
 }
 
 impl Names {
-    /// No name yet, and at most `limit` of them to come.
+    /// No name yet, and at most `limit` of them to come; the limit is from 1 to [`NAMES`].
     pub fn new(alloc: Global, limit: u32) -> Result<Names, NoMemory>
         requires { (1 ≤ limit) × (limit ≤ NAMES) }
         ensures { IfOk result (λ names. names ≡ record { limit = limit; texts = [] }) }
@@ -92,7 +92,8 @@ impl Names {
     /// The number of the name: its own where it is known, and else the next one, which it keeps.
     ///
     /// [`NamesFull`](NameFault::NamesFull) exactly where the name is new and there are as many names as the limit.
-    /// A known name takes no memory. After an error the names are as they were.
+    /// [`NoMemory`](NameFault::NoMemory) where a new name finds no memory; a known one takes none. After an error the
+    /// names are as they were. The text must be a name: [`Names::is_name`] tells.
     pub fn number(&mut self, text: &[u8]) -> Result<u32, NameFault>
         requires { IsTrue (is_name text.now) }
         ensures ok { OnOk result (self.new ≡ with_name self.old text.now) }

@@ -44,7 +44,7 @@ impl SelNo {
     }
 }
 
-/// The number of a body, any `u16`. A body is what answers a send; here it is a name.
+/// The number of a body, any `u16`. A body is what answers a send; here it is a number alone.
 #[derive(Clone, Copy, Debug, Default, PartialEq, Eq, PartialOrd, Ord)]
 pub struct BodyNo {
     number: u16,

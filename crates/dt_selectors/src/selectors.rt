@@ -48,7 +48,7 @@ impl Selectors {
         Ok(Selectors { rows })
     }
 
-    /// An equal copy, with memory of its own.
+    /// Equal selectors, with memory of their own; [`NoMemory`] where none was found.
     pub fn copy(&self) -> Result<Selectors, NoMemory>
         ensures { IfOk result (λ copy. copy ≡ self.now) }
     {
@@ -94,7 +94,7 @@ impl Selectors {
 
     /// The selector isn't live any more.
     ///
-    /// [`SelectorUnknown`](SelectorFault::SelectorUnknown) exactly where it isn't live already.
+    /// [`SelectorUnknown`](SelectorFault::SelectorUnknown) exactly where it isn't live; nothing changes then.
     pub fn drop_sel(&mut self, selector: SelNo) -> Result<(), SelectorFault>
         ensures answer { result ≡ ok_unless (drop_cause self.old selector) tt }
         ensures ok { OnOk result (self.new ≡ without_selector self.old selector) }

@@ -34,7 +34,8 @@ impl Model for ListSink {
 
 impl ListSink {
     /// A sink that takes at most `step` bytes a call and `room` bytes in all. A call fails exactly where its place,
-    /// from 1, is listed or `room` bytes are taken already. All memory of the sink is taken here.
+    /// from 1, is listed or `room` bytes are taken already. `step` is at least 1. All memory of the
+    /// sink is taken here.
     ///
     /// # Errors
     ///

@@ -32,7 +32,7 @@ impl Model for ListSource {
 
 impl ListSource {
     /// A source of these bytes that gives at most `step` of them a call. Exactly the calls whose places, from 1,
-    /// are listed fail.
+    /// are listed fail. `step` is at least 1.
     pub fn new(bytes: Vec<u8>, step: u32, failing: Vec<u32>) -> ListSource
         requires { 0 < step }
         ensures left { ⟦<ListSource as Source>⟧.left result ≡ Some bytes.items }

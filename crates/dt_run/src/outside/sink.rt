@@ -10,7 +10,7 @@ pub trait Sink {
     /// The bytes that were taken, where the sink tells them.
     ghost taken: { Self → Option (List ℕ) };
 
-    /// How often the sink failed, at most 2^64 - 1.
+    /// How often the sink failed. A count of 2^64 - 1 rises no more.
     ghost faults: { Self → ℕ };
 
     /// Takes bytes from the front of the piece, and answers how many, at least one.

@@ -12,7 +12,7 @@ pub trait Source {
     /// The bytes that are still to come, where the source tells them.
     ghost left: { Self → Option (List ℕ) };
 
-    /// How often the source failed, at most 2^64 - 1.
+    /// How often the source failed. A count of 2^64 - 1 rises no more.
     ghost faults: { Self → ℕ };
 
     /// Puts bytes at the front of the room, and answers how many; 0 is the end of input. Where the source tells

@@ -4,7 +4,8 @@ use crate::outside::sink::Sink;
 use crate::outside::source::Failed;
 use std::io::Write;
 
-/// A sink over a writer of std. It tells what the writer tells, which standard output doesn't.
+/// A sink over a writer of std. It tells what the writer tells, which standard output doesn't. A writer that takes nothing
+/// counts as one that failed.
 #[derive(Debug, Drop)]
 pub struct StdSink<T> {
     inner: T,
