@@ -9,7 +9,7 @@ use dt_definitions::{
 };
 use std::alloc::Global;
 
-/// How many edits of a kind are drawn: as many as a generated script has of each kind.
+/// How many edits of a kind are drawn.
 const EDITS: u16 = 50;
 
 /// Edits that are accepted one after another, and the edits that undo them.

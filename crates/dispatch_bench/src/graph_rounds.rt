@@ -28,6 +28,7 @@ pub struct GraphPlan {
     pub shape: Shape,
     /// The classes, from 2 to 2,048.
     pub classes: u16,
+    /// The number of classes is in its range.
     pub ghost in_range: { IsClassCount classes },
 }
 

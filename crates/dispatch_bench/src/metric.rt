@@ -1,11 +1,16 @@
-ghost use Rattle.std.specs.Prelude.{◌<◌};
+ghost use Rattle.std.specs.Prelude.{◌≡◌, ◌<◌};
+ghost use Rattle.dispatch_bench.specs.Figures.{nanoseconds_of};
 
 /// The unit of a metric's figures.
 #[derive(Clone, Copy, Debug, PartialEq, Eq)]
 pub enum Unit {
+    /// Thousand-millionths of a second.
     Nanoseconds,
+    /// Thousands of nanoseconds.
     Microseconds,
+    /// Millions of nanoseconds.
     Milliseconds,
+    /// Millions of bytes.
     Megabytes,
     /// No unit: the figures are whole numbers.
     Number,
@@ -23,9 +28,10 @@ impl Unit {
         }
     }
 
-    /// How many nanoseconds a unit of time is.
+    /// How many nanoseconds a unit of time is; 1 where it is no unit of time.
     pub fn nanoseconds(self) -> u32
-        ensures { 0 < result }
+        ensures value { result ≡ nanoseconds_of self }
+        ensures some { 0 < result }
     {
         match self {
             Unit::Microseconds => 1_000,

@@ -11,6 +11,7 @@ pub struct Size {
     pub classes: u16,
     /// The selectors, from 1 to 4,096.
     pub selectors: u16,
+    /// The numbers are in their ranges.
     pub ghost in_range: { IsSize classes selectors },
 }
 
