@@ -1,8 +1,10 @@
 -- The order of definitions, and lists of definitions that ascend in it.
-use Rattle.std.proofs.Common.{◌≡◌, ℕ, Bool, true, false, cond, List, [], ◌∷◌, filter, IsTrue, refl, arith, eqb}
-use Rattle.std.proofs.lemmas.Bool.{and_parts, eqb-true}
+use Rattle.std.proofs.Common.{◌≡◌, ℕ, Bool, true, false, List, [], ◌∷◌, filter, IsTrue, refl, sym, ◌∙◌, arith, eqb}
+use Rattle.std.proofs.lemmas.Bool.{and_parts, eqb-true, false≢true}
 use Rattle.std.proofs.lemmas.Bool.Decides.{nat_tests}
-use Rattle.dt_definitions.specs.Program.{Definition, same_classes, is_definition, is_definition_before, place_definition}
+use Rattle.dt_definitions.specs.Program.{Definition, same_classes, is_definition, is_definition_before, place_definition, DefinitionKey, key_of, is_key_before, is_same_key}
+use Rattle.dt_graph.specs.InOrder.{StrictOrder}
+use Rattle.dt_graph.proofs.InOrder.{Ascends-tail, Ascends-place, Ascends-filter}
 use Rattle.dt_definitions.specs.Lawful.{AscendingDefinitions}
 use Rattle.dt_definitions.proofs.ClassOrder.{same-refl, same-equal, same-sym, before-trans, before-total, before-asym, before-differs}
 
@@ -34,6 +36,16 @@ is_definition-equal s cs d h =
 pub is_definition-refl : (d : Definition) → IsTrue (is_definition d.selector d.classes d)
 is_definition-refl d = let r = same-refl d.classes in grind (arith, nat_tests)
 
+abbrev at : DefinitionKey → Definition
+at k = record { selector = k.selector; classes = k.classes; body = 0 }
+
+not_before_itself : (d : Definition) → is_definition_before d d ≡ false
+not_before_itself d =
+    elim (is_definition_before d d) as (λ t. is_definition_before d d ≡ t → t ≡ false) [
+      | true ↦ λ b. absurd (false≢true (sym (def_before-asym d d b) ∙ b))
+      | false ↦ λ b. refl
+    ] refl
+
 -- the definition stands before each of the list
 abbrev pub StandsFirst : Definition → List Definition → Type 0
 StandsFirst d [] = Unit {0}
@@ -44,71 +56,28 @@ pub stands_first-trans : (a b : Definition) (ds : List Definition)
 stands_first-trans a b [] p h = tt
 stands_first-trans a b (d ∷ ds) p h = (def_before-trans a b d p h.0, stands_first-trans a b ds p h.1)
 
+-- the keys of definitions are in strict order
+pub key_order : StrictOrder is_key_before is_same_key
+key_order = record {
+  transitive = λ a b c p q. def_before-trans (at a) (at b) (at c) p q;
+  irreflexive = λ a. not_before_itself (at a);
+  total = λ a b p q. def_before-total (at a) (at b) p q;
+  equal = λ a b s. let e = is_definition-equal a.selector a.classes (at b) s in rw (sym e.0, sym e.1) refl;
+  reflexive = λ a. is_definition-refl (at a);
+}
+
 pub ascending-tail : (d : Definition) (ds : List Definition) → AscendingDefinitions (d ∷ ds) → AscendingDefinitions ds
-ascending-tail d [] h = tt
-ascending-tail d (e ∷ ds) h = h.1
+ascending-tail d ds h = Ascends-tail key_of is_key_before is_same_key key_order d ds h
 
 pub ascending-first : (d : Definition) (ds : List Definition) → AscendingDefinitions (d ∷ ds) → StandsFirst d ds
 ascending-first d [] h = tt
 ascending-first d (e ∷ ds) h = (h.0, stands_first-trans d e ds h.0 (ascending-first e ds h.1))
 
-pub ascending-cons : (d : Definition) (ds : List Definition)
-    → StandsFirst d ds → AscendingDefinitions ds → AscendingDefinitions (d ∷ ds)
-ascending-cons d [] f h = tt
-ascending-cons d (e ∷ ds) f h = (f.0, h)
-
--- the list ascends with one definition more
-stands_first-place : (a d : Definition) (ds : List Definition)
-    → IsTrue (is_definition_before a d) → StandsFirst a ds → StandsFirst a (place_definition d ds)
-stands_first-place a d [] p h = (p, tt)
-stands_first-place a d (e ∷ ds) p h =
-    elim (is_definition_before d e) as (λ t. StandsFirst a (cond t (d ∷ e ∷ ds) (cond (is_definition d.selector d.classes e) (d ∷ ds) (e ∷ place_definition d ds)))) [
-      | true ↦ (p, h)
-      | false ↦ elim (is_definition d.selector d.classes e) as (λ t. StandsFirst a (cond t (d ∷ ds) (e ∷ place_definition d ds))) [
-        | true ↦ (p, h.1)
-        | false ↦ (h.0, stands_first-place a d ds p h.1)
-      ]
-    ]
-
--- a definition of the same selector and classes stands where the other does
-same-place : (d e : Definition) (ds : List Definition)
-    → IsTrue (is_definition d.selector d.classes e) → StandsFirst e ds → StandsFirst d ds
-same-place d e [] s h = tt
-same-place d e (f ∷ ds) s h =
-    let q = is_definition-equal d.selector d.classes e s in
-    (grind (arith, nat_tests), same-place d e ds s h.1)
-
+-- the list ascends with one definition more, and with some left out
 pub place-ascends : (d : Definition) (ds : List Definition)
     → AscendingDefinitions ds → AscendingDefinitions (place_definition d ds)
-place-ascends d [] h = tt
-place-ascends d (e ∷ ds) h =
-    let f = ascending-first e ds h in let u = ascending-tail e ds h in
-    elim (is_definition_before d e) as (λ t. is_definition_before d e ≡ t
-    → AscendingDefinitions (cond t (d ∷ e ∷ ds) (cond (is_definition d.selector d.classes e) (d ∷ ds) (e ∷ place_definition d ds)))) [
-      | true ↦ λ b. (b, h)
-      | false ↦ λ b. elim (is_definition d.selector d.classes e) as (λ t. is_definition d.selector d.classes e ≡ t
-          → AscendingDefinitions (cond t (d ∷ ds) (e ∷ place_definition d ds))) [
-            | true ↦ λ s. ascending-cons d ds (same-place d e ds s f) u
-            | false ↦ λ s. ascending-cons e (place_definition d ds)
-                (stands_first-place e d ds (def_before-total d e b s) f) (place-ascends d ds u)
-          ] refl
-    ] refl
-
-stands_first-filter : (a : Definition) (p : Definition → Bool) (ds : List Definition)
-    → StandsFirst a ds → StandsFirst a (filter p ds)
-stands_first-filter a p [] h = tt
-stands_first-filter a p (e ∷ ds) h =
-    elim (p e) as (λ t. StandsFirst a (cond t (e ∷ filter p ds) (filter p ds))) [
-      | true ↦ (h.0, stands_first-filter a p ds h.1)
-      | false ↦ stands_first-filter a p ds h.1
-    ]
+place-ascends d ds h = Ascends-place key_of is_key_before is_same_key key_order d ds h
 
 pub filter-ascends : (p : Definition → Bool) (ds : List Definition)
     → AscendingDefinitions ds → AscendingDefinitions (filter p ds)
-filter-ascends p [] h = tt
-filter-ascends p (e ∷ ds) h =
-    let f = ascending-first e ds h in let u = ascending-tail e ds h in
-    elim (p e) as (λ t. AscendingDefinitions (cond t (e ∷ filter p ds) (filter p ds))) [
-      | true ↦ ascending-cons e (filter p ds) (stands_first-filter e p ds f) (filter-ascends p ds u)
-      | false ↦ filter-ascends p ds u
-    ]
+filter-ascends p ds h = Ascends-filter key_of is_key_before is_same_key key_order p ds h

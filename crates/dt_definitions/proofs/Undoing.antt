@@ -2,10 +2,9 @@
 use Rattle.std.proofs.Common.{◌≡◌, ℕ, ◌+◌, ◌<◌, List, [], ◌∷◌, ◌++◌, length, drop, get_or, reverse, Ok, Result, sym, ap, subst, ◌∙◌, arith}
 use Rattle.std.proofs.lemmas.List.{reverse-append, drop_more}
 use Rattle.dt_definitions.specs.Program.{Program}
-use Rattle.dt_definitions.specs.Lawful.{Lawful}
 use Rattle.dt_definitions.specs.DefinitionRows.{RoomStays}
 use Rattle.dt_definitions.specs.Step.{step, step_from, and_then, Refused}
-use Rattle.dt_definitions.specs.Undo.{restored, HasRoom, CanUndo}
+use Rattle.dt_definitions.specs.Undo.{restored, HasRoom, HasRooms}
 use Rattle.dt_definitions.specs.declared.edit.Edit.{Edit}
 use Rattle.dt_definitions.specs.declared.kept.Kept.{Kept}
 use Rattle.dt_definitions.specs.declared.kept.Kept.TheVariants as kept
@@ -21,17 +20,10 @@ room_more p rooms more (kept.Selector selector arity) s h = tt
 room_more p rooms more (kept.Definition selector classes body) s h =
     λ absent. let l = h absent in omega (arith, l, s selector)
 
-pub can_more : (log : List Kept) (p : Program) (rooms more : List ℕ) → RoomStays rooms more → CanUndo rooms p log → CanUndo more p log
-can_more [] p rooms more s h = tt
-can_more (last ∷ log) p rooms more s h =
-    (room_more p rooms more last s h.0, h.1, can_more log (restored p last) rooms more s h.2)
-
--- after one more step
-pub can_step : (log : List Kept) (last : Kept) (old new : Program) (rooms more : List ℕ)
-    → RoomStays rooms more → Lawful old → restored new last ≡ old
-    → HasRoom (record { all = new.definitions; rooms = more }) last → CanUndo rooms old log → CanUndo more new (last ∷ log)
-can_step log last old new rooms more s l back room can =
-    (room, subst Lawful (sym back) l, subst (λ p. CanUndo more p log) (sym back) (can_more log old rooms more s can))
+pub rooms_more : (log : List Kept) (p : Program) (rooms more : List ℕ) → RoomStays rooms more → HasRooms rooms p log → HasRooms more p log
+rooms_more [] p rooms more s h = tt
+rooms_more (last ∷ log) p rooms more s h =
+    (room_more p rooms more last s h.0, rooms_more log (restored p last) rooms more s h.1)
 
 -- the rest of a batch after an edit that was applied, and after one that was refused
 pub rest_applied : (edits : List Edit) (i : ℕ) (edit : Edit) (old new : Program) (whole : Result Program Refused)

@@ -1,21 +1,19 @@
 -- What holds of every program that edits make, beginning with the empty one.
-use Rattle.std.specs.Prelude.{◌≡◌, ◌<◌, ◌≤◌, IsTrue, List, [], ◌∷◌, length, Some, All}
+use Rattle.std.specs.Prelude.{◌≡◌, ◌<◌, ◌≤◌, IsTrue, List, length, Some, All}
 use Rattle.dt_graph.specs.Graph.{is_live}
 use Rattle.dt_graph.specs.Lawful.{LawfulGraph}
 use Rattle.dt_graph.specs.declared.limits.TheConstants.{CLASSES}
 use Rattle.dt_selectors.specs.Lawful.{LawfulSelector, LawfulSelectors}
 use Rattle.dt_selectors.specs.declared.limits.TheConstants.{BODIES}
-use Rattle.dt_definitions.specs.Program.{Definition, Program, arity_of, is_definition_before}
+use Rattle.dt_definitions.specs.Program.{Definition, Program, arity_of, key_of, is_key_before}
+use Rattle.dt_graph.specs.InOrder.{Ascends}
 use Rattle.dt_definitions.specs.declared.limits.TheConstants.{DEFINITIONS}
 use Rattle.dt_definitions.specs.declared.edit.Edit.{Edit}
 use Rattle.dt_definitions.specs.declared.edit.Edit.TheVariants.{AddClass, DropClass, Link, Unlink, AddSelector, DropSelector, Define, Undefine}
 
 -- each definition stands before the next
 abbrev pub AscendingDefinitions : List Definition → Type 0
-AscendingDefinitions [] = Unit {0}
-AscendingDefinitions (a ∷ []) = Unit {0}
-AscendingDefinitions (a ∷ b ∷ definitions) =
-    IsTrue (is_definition_before a b) × AscendingDefinitions (b ∷ definitions)
+AscendingDefinitions definitions = Ascends key_of is_key_before definitions
 
 -- a definition's selector is live with as many places as the definition has classes, and these classes are live
 pub record LawfulDefinition (program : Program) (d : Definition) : Type 0 where

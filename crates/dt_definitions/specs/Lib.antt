@@ -11,6 +11,8 @@ pub mod Parts
 pub mod Place
 pub mod Program
 pub mod RefusalExamples
+pub mod SecondProgram
 pub mod Step
 pub mod TupleForm
+pub mod TwoPrograms
 pub mod Undo

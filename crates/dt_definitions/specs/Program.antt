@@ -1,6 +1,7 @@
 -- A program: the class graph, the selectors with their arity, and the definitions of selectors at lists of classes.
-use Rattle.std.specs.Prelude.{◌==◌, ℕ, Bool, false, true, ◌&&◌, ◌||◌, if◌then◌else◌, nat_lt, List, [], ◌∷◌, Option, filter, find}
+use Rattle.std.specs.Prelude.{◌==◌, ℕ, Bool, false, true, ◌&&◌, ◌||◌, nat_lt, List, [], ◌∷◌, Option, filter, find}
 use Rattle.std.specs.Option.{option_map}
+use Rattle.dt_graph.specs.InOrder.{place}
 use Rattle.dt_graph.specs.Graph.{Graph, empty_graph}
 use Rattle.dt_selectors.specs.Selectors.{Selector, arity_in}
 
@@ -47,15 +48,24 @@ abbrev pub is_definition_before : Definition → Definition → Bool
 is_definition_before a b =
     nat_lt a.selector b.selector || ((a.selector == b.selector) && are_classes_before a.classes b.classes)
 
+-- where a definition stands: its selector and its classes
+pub record DefinitionKey : Type 0 where
+  pub selector : ℕ
+  pub classes : List ℕ
+
+abbrev pub key_of : Definition → DefinitionKey
+key_of d = record { selector = d.selector; classes = d.classes }
+
+abbrev pub is_key_before : DefinitionKey → DefinitionKey → Bool
+is_key_before a b =
+    nat_lt a.selector b.selector || ((a.selector == b.selector) && are_classes_before a.classes b.classes)
+
+abbrev pub is_same_key : DefinitionKey → DefinitionKey → Bool
+is_same_key a b = (b.selector == a.selector) && same_classes b.classes a.classes
+
 -- the definitions with this one, in ascending order; one of the same selector and classes is replaced
 abbrev pub place_definition : Definition → List Definition → List Definition
-place_definition definition [] = definition ∷ []
-place_definition definition (d ∷ definitions) =
-    if is_definition_before definition d
-    then definition ∷ d ∷ definitions
-    else (if is_definition definition.selector definition.classes d
-    then definition ∷ definitions
-    else d ∷ place_definition definition definitions)
+place_definition definition definitions = place key_of is_key_before is_same_key definition definitions
 
 -- the definitions of the selector
 abbrev pub definitions_of : Program → ℕ → List Definition

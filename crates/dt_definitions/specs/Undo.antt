@@ -1,5 +1,5 @@
 -- How a batch is undone: what each edit may change is kept before it, and restored from the last edit's to the first's.
-use Rattle.std.specs.Prelude.{ℕ, not, List, [], ◌∷◌, Option, None, Some, filter}
+use Rattle.std.specs.Prelude.{◌≡◌, ℕ, not, List, [], ◌∷◌, Option, None, Some, filter}
 use Rattle.dt_graph.specs.Graph.{is_live}
 use Rattle.dt_graph.specs.Parents.{parents_of}
 use Rattle.dt_graph.specs.Restore.{restore_effect}
@@ -63,9 +63,17 @@ abbrev pub undone : Program → List Kept → Program
 undone p [] = p
 undone p (last ∷ earlier) = undone (restored p last) earlier
 
--- all can be restored: each time the program is lawful, and the definitions have room
-abbrev pub CanUndo : List ℕ → Program → List Kept → Type 0
-CanUndo rooms p [] = Unit {0}
-CanUndo rooms p (last ∷ earlier) =
-    HasRoom (record { all = p.definitions; rooms = rooms }) last
-    × Lawful (restored p last) × CanUndo rooms (restored p last) earlier
+-- each time that the last is restored the program is lawful
+abbrev pub StaysLawful : Program → List Kept → Type 0
+StaysLawful p [] = Unit {0}
+StaysLawful p (last ∷ earlier) = Lawful (restored p last) × StaysLawful (restored p last) earlier
+
+-- each time that the last is restored the definitions, with this much room, have room for it
+abbrev pub HasRooms : List ℕ → Program → List Kept → Type 0
+HasRooms rooms p [] = Unit {0}
+HasRooms rooms p (last ∷ earlier) =
+    HasRoom (record { all = p.definitions; rooms = rooms }) last × HasRooms rooms (restored p last) earlier
+
+-- all can be restored, and then the program is the old one
+abbrev pub LeadsBack : Program → List Kept → Program → Type 0
+LeadsBack new log old = StaysLawful new log × (undone new log ≡ old)

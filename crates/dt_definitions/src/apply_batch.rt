@@ -1,14 +1,15 @@
-ghost use Rattle.std.specs.Prelude.{◌≡◌, ◌≤◌, ◌^◌, [], ◌∷◌, length};
+ghost use Rattle.std.specs.Prelude.{◌≡◌, [], ◌∷◌, IfOk, IfErr, reverse};
 ghost use Rattle.dt_definitions.specs.Parts.{program_of};
 ghost use Rattle.dt_definitions.specs.Lawful.{Lawful};
-ghost use Rattle.dt_definitions.specs.Step.{AppliesBatch};
+ghost use Rattle.dt_definitions.specs.Step.{step_batch, AppliesBatch};
+ghost use Rattle.dt_definitions.specs.Undo.{LeadsBack};
 ghost use Rattle.dt_definitions.specs.Memory.{may_want_memory, batch_may_want_memory, BatchNoMemoryOnlyWhere};
 
 use crate::batch::Batch;
 use crate::edit::Edit;
+use crate::kept::Kept;
 use crate::parts::Parts;
 use crate::why::BatchFault;
-use std::alloc::Global;
 
 impl Parts {
     /// The one edit of a batch.
@@ -24,26 +25,30 @@ impl Parts {
         }
     }
 
-    /// All edits in order, or none where one is refused or memory is wanting.
-    fn apply_all(&mut self, alloc: Global, edits: &[Edit]) -> Result<(), BatchFault>
-        requires lawful { Lawful (program_of self.old) }
-        requires few { length edits.now ≤ 2 ^ 31 }
-        ensures applies { AppliesBatch (program_of self.old) edits.now (program_of self.new) result }
+    /// All edits in order, with what undoes them, or none where one is refused or memory is wanting.
+    pub(crate) fn apply_kept(&mut self, batch: &Batch) -> Result<Vec<Kept>, BatchFault>
+        requires { Lawful (program_of self.old) }
+        ensures ok { IfOk result (λ kept. (step_batch (program_of self.old) batch.now ≡ Ok (program_of self.new))
+            × LeadsBack (program_of self.new) (reverse kept.items) (program_of self.old)) }
+        ensures err { IfErr result (λ fault. AppliesBatch (program_of self.old) batch.now (program_of self.new) (Err fault)) }
         ensures lawful { Lawful (program_of self.new) }
     {
         // All the room that undoing needs is taken before the first edit.
-        let Ok(mut kept) = Vec::with_capacity(alloc, edits.len()) else {
+        let edits = batch.as_slice();
+        let Ok(mut kept) = Vec::with_capacity(batch.allocator(), edits.len()) else {
             return Err(BatchFault::NoMemory);
         };
         for (index, edit) in edits.iter().enumerate() {
             let before = self.kept(edit);
             if let Err(fault) = self.apply(edit) {
-                self.undo(kept);
+                if self.undo(kept).is_err() {
+                    unreachable!();
+                }
                 return Err(BatchFault::at(index as u32 + 1, fault));
             }
             kept.push_reserved(before);
         }
-        Ok(())
+        Ok(kept)
     }
 
     /// The edits of the batch in order, or none where one is refused or memory is wanting. Only where there are
@@ -57,7 +62,10 @@ impl Parts {
         match batch.as_slice() {
             [] => Ok(()),
             [edit] => self.apply_alone(edit),
-            edits => self.apply_all(batch.allocator(), edits),
+            _ => {
+                let _kept = self.apply_kept(batch)?;
+                Ok(())
+            }
         }
     }
 }

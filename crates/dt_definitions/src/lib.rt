@@ -16,6 +16,7 @@ mod parts;
 mod program;
 mod row;
 mod tuple;
+mod two_programs;
 mod undo;
 mod why;
 
@@ -35,6 +36,7 @@ pub use limits::DEFINITIONS;
 pub use parents::Parents;
 pub use program::Program;
 pub use tuple::Tuple;
+pub use two_programs::TwoPrograms;
 pub use why::{ApplyFault, BatchFault, Why};
 
 #[cfg(test)]

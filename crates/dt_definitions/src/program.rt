@@ -1,4 +1,4 @@
-ghost use Rattle.std.specs.Prelude.{◌≡◌, ℕ, ◌<◌, length, Some, IsTrue, IfOk, All, ◌≤◌, List, count_by};
+ghost use Rattle.std.specs.Prelude.{◌≡◌, ℕ, ◌<◌, length, Some, IsTrue, Ok, Err, IfOk, IfErr, OnOk, reverse, All, ◌≤◌, List, count_by};
 ghost use Rattle.std.specs.Option.{option_map};
 ghost use Rattle.dt_graph.specs.Graph.{is_live};
 ghost use Rattle.dt_graph.specs.Below.{HasNoCycle};
@@ -7,13 +7,15 @@ ghost use Rattle.dt_definitions.specs.Program.{empty_program, arity_of, definiti
 ghost use Rattle.dt_definitions.specs.Lawful.{Lawful};
 ghost use Rattle.dt_definitions.specs.DefinitionRows.{with_selector};
 ghost use Rattle.dt_definitions.specs.Place.{at_place};
-ghost use Rattle.dt_definitions.specs.Step.{Applies, AppliesBatch};
+ghost use Rattle.dt_definitions.specs.Step.{Applies, step_batch, AppliesBatch};
+ghost use Rattle.dt_definitions.specs.Undo.{LeadsBack, StaysLawful, undone};
 ghost use Rattle.dt_definitions.specs.Memory.{may_want_memory, batch_may_want_memory, NoMemoryOnlyWhere, BatchNoMemoryOnlyWhere};
 
 use crate::batch::Batch;
 use crate::defined::Defined;
 use crate::definition_table::DefinitionTable;
 use crate::edit::Edit;
+use crate::kept::Kept;
 use crate::law::steps_keep_law;
 use crate::parts::Parts;
 use crate::tuple::Tuple;
@@ -159,5 +161,23 @@ impl Program {
         ensures memory { BatchNoMemoryOnlyWhere (batch_may_want_memory self.old batch.now) result }
     {
         self.parts.apply_batch(batch)
+    }
+
+    /// As [`Program::apply_batch`], with what undoes it.
+    pub(crate) fn apply_kept(&mut self, batch: &Batch) -> Result<Vec<Kept>, BatchFault>
+        ensures ok { IfOk result (λ kept. (step_batch self.old batch.now ≡ Ok self.new)
+            × LeadsBack self.new (reverse kept.items) self.old) }
+        ensures err { IfErr result (λ fault. AppliesBatch self.old batch.now self.new (Err fault)) }
+    {
+        self.parts.apply_kept(batch)
+    }
+
+    /// All that was kept is restored, the last first. It takes memory only where the rows of definitions have less room
+    /// than they had.
+    pub(crate) fn undo(&mut self, kept: Vec<Kept>) -> Result<(), NoMemory>
+        requires { StaysLawful self.old (reverse kept.items) }
+        ensures { OnOk result (self.new ≡ undone self.old (reverse kept.items)) }
+    {
+        self.parts.undo(kept)
     }
 }

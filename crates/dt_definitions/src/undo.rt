@@ -1,7 +1,7 @@
-ghost use Rattle.std.specs.Prelude.{◌≡◌, ◌≤◌, length, reverse};
+ghost use Rattle.std.specs.Prelude.{◌≡◌, ◌≤◌, length, reverse, IsOk, OnOk, OnErr};
 ghost use Rattle.dt_definitions.specs.Parts.{program_of};
 ghost use Rattle.dt_definitions.specs.Lawful.{Lawful};
-ghost use Rattle.dt_definitions.specs.Undo.{class_in, selector_in, definition_in, kept_of, restore_selector, restore_definition, restored, undone, HasRoom, CanUndo};
+ghost use Rattle.dt_definitions.specs.Undo.{class_in, selector_in, definition_in, kept_of, restore_selector, restore_definition, restored, undone, HasRoom, StaysLawful, HasRooms};
 ghost use Rattle.dt_definitions.specs.DefinitionRows.{HasRoomFor, RoomStays};
 
 use crate::definition_table::DefinitionTable;
@@ -11,7 +11,7 @@ use crate::limits::DEFINITIONS;
 use crate::parts::Parts;
 use crate::tuple::Tuple;
 use arrayvec::ArrayVec;
-use dt_graph::ClassNo;
+use dt_graph::{ClassNo, NoMemory};
 use dt_selectors::{Arity, BodyNo, SelNo, Selectors};
 
 /// The selector has this arity again, or isn't live again.
@@ -30,19 +30,19 @@ fn restore_definition(
     selector: SelNo,
     classes: &Tuple,
     body: Option<BodyNo>,
-)
-    requires few { length definitions.old.all ≤ DEFINITIONS }
-    requires room { HasRoomFor definitions.old selector classes.now }
-    ensures after { definitions.new.all ≡ restore_definition definitions.old.all selector classes.now body }
+) -> Result<(), NoMemory>
+    requires { length definitions.old.all ≤ DEFINITIONS }
+    ensures ok { OnOk result (definitions.new.all ≡ restore_definition definitions.old.all selector classes.now body) }
+    ensures err { OnErr result (definitions.new.all ≡ definitions.old.all) }
+    ensures succeeds { HasRoomFor definitions.old selector classes.now → IsOk result }
     ensures room_stays { RoomStays definitions.old.rooms definitions.new.rooms }
 {
     match body {
-        Some(body) => {
-            if definitions.put(selector, *classes, body).is_err() {
-                unreachable!();
-            }
+        Some(body) => definitions.put(selector, *classes, body),
+        None => {
+            definitions.remove(selector, classes.classes());
+            Ok(())
         }
-        None => definitions.remove(selector, classes.classes()),
     }
 }
 
@@ -101,12 +101,13 @@ impl Parts {
         }
     }
 
-    /// What was kept is in place of what is there.
-    fn restore(&mut self, kept: &Kept)
+    /// What was kept is in place of what is there. It succeeds where the definitions have room.
+    fn restore(&mut self, kept: &Kept) -> Result<(), NoMemory>
         requires was_lawful { Lawful (program_of self.old) }
         requires lawful { Lawful (restored (program_of self.old) kept.now) }
-        requires room { HasRoom self.old.definitions kept.now }
-        ensures after { program_of self.new ≡ restored (program_of self.old) kept.now }
+        ensures ok { OnOk result (program_of self.new ≡ restored (program_of self.old) kept.now) }
+        ensures err { OnErr result (program_of self.new ≡ program_of self.old) }
+        ensures succeeds { HasRoom self.old.definitions kept.now → IsOk result }
         ensures room_stays { RoomStays self.old.definitions.rooms self.new.definitions.rooms }
     {
         match kept {
@@ -114,9 +115,13 @@ impl Parts {
                 class,
                 is_live,
                 parents,
-            } => self.graph.restore(*class, *is_live, parents.as_slice()),
+            } => {
+                self.graph.restore(*class, *is_live, parents.as_slice());
+                Ok(())
+            }
             Kept::Selector { selector, arity } => {
                 restore_selector(&mut self.selectors, *selector, *arity);
+                Ok(())
             }
             Kept::Definition {
                 selector,
@@ -126,14 +131,18 @@ impl Parts {
         }
     }
 
-    /// All that was kept is restored, the last first.
-    pub(crate) fn undo(&mut self, mut kept: Vec<Kept>)
-        requires lawful { Lawful (program_of self.old) }
-        requires can { CanUndo self.old.definitions.rooms (program_of self.old) (reverse kept.items) }
-        ensures { program_of self.new ≡ undone (program_of self.old) (reverse kept.items) }
+    /// All that was kept is restored, the last first. It succeeds where the definitions have room; else the program may
+    /// stand between.
+    pub(crate) fn undo(&mut self, mut kept: Vec<Kept>) -> Result<(), NoMemory>
+        requires was_lawful { Lawful (program_of self.old) }
+        requires lawful { StaysLawful (program_of self.old) (reverse kept.items) }
+        ensures ok { OnOk result (program_of self.new ≡ undone (program_of self.old) (reverse kept.items)) }
+        ensures lawful { Lawful (program_of self.new) }
+        ensures succeeds { HasRooms self.old.definitions.rooms (program_of self.old) (reverse kept.items) → IsOk result }
     {
         while let Some(last) = kept.pop() {
-            self.restore(&last);
+            self.restore(&last)?;
         }
+        Ok(())
     }
 }

@@ -1,3 +1,4 @@
+pub mod InOrder
 pub mod Walks
 pub mod ParentLists
 pub mod Rows

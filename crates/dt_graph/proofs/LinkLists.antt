@@ -41,17 +41,17 @@ all_links P (link ∷ links) each = All-cons (λ l. P l.class l.parent) link lin
 pub or_swap : (x y z : Bool) → (x || (y || z)) ≡ (y || (x || z))
 or_swap x y z = grind arith
 
-or_twice : (x y z : Bool) → x ≡ y → (x || (y || z)) ≡ (y || z)
-or_twice x y z same = grind arith
+or_once : (x y z : Bool) → x ≡ y → (x || z) ≡ (x || (y || z))
+or_once x y z same = grind arith
 
 pub has_number-placed : (new : ℕ) (numbers : List ℕ) (n : ℕ) → has_number (place_number new numbers) n ≡ ((new == n) || has_number numbers n)
 has_number-placed new [] n = refl
-has_number-placed new (x ∷ numbers) n = cond_both (nat_lt new x) (new ∷ x ∷ numbers) (cond (new == x) (x ∷ numbers) (x ∷ place_number new numbers))
+has_number-placed new (x ∷ numbers) n = cond_both (nat_lt new x) (new ∷ x ∷ numbers) (cond (new == x) (new ∷ numbers) (x ∷ place_number new numbers))
     (λ ns. has_number ns n ≡ ((new == n) || ((x == n) || has_number numbers n)))
     (λ before. refl)
-    (λ after. cond_both (new == x) (x ∷ numbers) (x ∷ place_number new numbers)
+    (λ after. cond_both (new == x) (new ∷ numbers) (x ∷ place_number new numbers)
     (λ ns. has_number ns n ≡ ((new == n) || ((x == n) || has_number numbers n)))
-    (λ same. sym (or_twice (new == n) (x == n) (has_number numbers n) (ap (λ m. m == n) (eqb-true new x same))))
+    (λ same. or_once (new == n) (x == n) (has_number numbers n) (ap (λ m. m == n) (eqb-true new x same)))
     (λ other. ap (λ b. (x == n) || b) (has_number-placed new numbers n) ∙ or_swap (x == n) (new == n) (has_number numbers n)))
 
 is_link_same : (link other : Link) (a b : ℕ) → IsTrue (is_link link.class link.parent other) → is_link a b link ≡ is_link a b other
@@ -63,12 +63,12 @@ is_link_same link other a b same =
 
 pub has_link-placed : (link : Link) (links : List Link) (a b : ℕ) → has_link (place_link link links) a b ≡ has_link (link ∷ links) a b
 has_link-placed link [] a b = refl
-has_link-placed link (l ∷ links) a b = cond_both (is_link_before link l) (link ∷ l ∷ links) (cond (is_link link.class link.parent l) (l ∷ links) (l ∷ place_link link links))
+has_link-placed link (l ∷ links) a b = cond_both (is_link_before link l) (link ∷ l ∷ links) (cond (is_link link.class link.parent l) (link ∷ links) (l ∷ place_link link links))
     (λ ls. has_link ls a b ≡ has_link (link ∷ l ∷ links) a b)
     (λ before. refl)
-    (λ after. cond_both (is_link link.class link.parent l) (l ∷ links) (l ∷ place_link link links)
+    (λ after. cond_both (is_link link.class link.parent l) (link ∷ links) (l ∷ place_link link links)
     (λ ls. has_link ls a b ≡ has_link (link ∷ l ∷ links) a b)
-    (λ same. sym (or_twice (is_link a b link) (is_link a b l) (has_link links a b) (is_link_same link l a b same)))
+    (λ same. or_once (is_link a b link) (is_link a b l) (has_link links a b) (is_link_same link l a b same))
     (λ other. ap (λ c. is_link a b l || c) (has_link-placed link links a b) ∙ or_swap (is_link a b l) (is_link a b link) (has_link links a b)))
 
 -- a link after links to these parents were placed is one of them, or was there
@@ -130,12 +130,12 @@ has_link-filter test (link ∷ links) a b =
 
 pub parent_count-placed : (link : Link) (links : List Link) (class : ℕ) → parent_count (place_link link links) class ≤ cond (link.class == class) 1 0 + parent_count links class
 parent_count-placed link [] class = omega (arith, parent_count-cons link [] class)
-parent_count-placed link (l ∷ links) class = cond_both (is_link_before link l) (link ∷ l ∷ links) (cond (is_link link.class link.parent l) (l ∷ links) (l ∷ place_link link links))
+parent_count-placed link (l ∷ links) class = cond_both (is_link_before link l) (link ∷ l ∷ links) (cond (is_link link.class link.parent l) (link ∷ links) (l ∷ place_link link links))
     (λ ls. parent_count ls class ≤ cond (link.class == class) 1 0 + parent_count (l ∷ links) class)
     (λ before. omega (arith, parent_count-cons link (l ∷ links) class))
-    (λ after. cond_both (is_link link.class link.parent l) (l ∷ links) (l ∷ place_link link links)
+    (λ after. cond_both (is_link link.class link.parent l) (link ∷ links) (l ∷ place_link link links)
     (λ ls. parent_count ls class ≤ cond (link.class == class) 1 0 + parent_count (l ∷ links) class)
-    (λ same. omega arith)
+    (λ same. omega (arith, parent_count-cons link links class, parent_count-cons l links class))
     (λ other. omega (arith, parent_count-cons l (place_link link links) class, parent_count-cons l links class, parent_count-placed link links class)))
 
 pub parent_count-each_placed : (class : ℕ) (parents : List ℕ) (links : List Link) (c : ℕ) → parent_count (place_links class parents links) c ≤ cond (class == c) (length parents) 0 + parent_count links c
@@ -157,9 +157,9 @@ parent_count-filter test (l ∷ links) class = cond_both (test l) (l ∷ filter 
 -- one is placed, so there is one more at most
 pub length-placed : (new : ℕ) (numbers : List ℕ) → length (place_number new numbers) ≤ length numbers + 1
 length-placed new [] = omega arith
-length-placed new (n ∷ numbers) = cond_both (nat_lt new n) (new ∷ n ∷ numbers) (cond (new == n) (n ∷ numbers) (n ∷ place_number new numbers))
+length-placed new (n ∷ numbers) = cond_both (nat_lt new n) (new ∷ n ∷ numbers) (cond (new == n) (new ∷ numbers) (n ∷ place_number new numbers))
     (λ ns. length ns ≤ length (n ∷ numbers) + 1)
     (λ _. omega arith)
-    (λ _. cond_both (new == n) (n ∷ numbers) (n ∷ place_number new numbers) (λ ns. length ns ≤ length (n ∷ numbers) + 1)
+    (λ _. cond_both (new == n) (new ∷ numbers) (n ∷ place_number new numbers) (λ ns. length ns ≤ length (n ∷ numbers) + 1)
     (λ _. omega arith)
     (λ _. omega (arith, length-placed new numbers)))

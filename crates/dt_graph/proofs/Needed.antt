@@ -25,7 +25,7 @@ parent_count-new class parent (l ∷ links) absent =
     let new : Link = record { class = class; parent = parent } in
     let own : ◌≡◌ {A = ℕ} (cond (class == class) 1 0) 1 = rw (eq-eqb class class refl) refl in
     let parts = or_parts (is_link class parent l) (has_link links class parent) absent in
-    cond_both (is_link_before new l) (new ∷ l ∷ links) (cond (is_link class parent l) (l ∷ links) (l ∷ place_link new links))
+    cond_both (is_link_before new l) (new ∷ l ∷ links) (cond (is_link class parent l) (new ∷ links) (l ∷ place_link new links))
     (λ ls. parent_count ls class ≡ suc (parent_count (l ∷ links) class))
     (λ before. omega (arith, parent_count-cons new (l ∷ links) class, own))
     (λ after. rw parts.0 (omega (arith, parent_count-cons l (place_link new links) class, parent_count-cons l links class, parent_count-new class parent links parts.1)))

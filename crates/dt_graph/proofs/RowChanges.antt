@@ -93,9 +93,9 @@ place_link-own rows k p [] = place_link-first rows (k + 1) k p (omega arith)
 place_link-own rows k p (x ∷ ps) =
     let rest = place_link-own rows k p ps in
     rw (le-ltb k k (omega arith), eq-eqb k k refl, same_either_way x p)
-    (elim (nat_lt p x) as (λ b. cond b (record { class = k; parent = p } ∷ record { class = k; parent = x } ∷ links_to k ps ++ links_from (k + 1) rows) (cond (p == x) (record { class = k; parent = x } ∷ links_to k ps ++ links_from (k + 1) rows) (record { class = k; parent = x } ∷ place_link (record { class = k; parent = p }) (links_to k ps ++ links_from (k + 1) rows))) ≡ links_to k (cond b (p ∷ x ∷ ps) (cond (p == x) (x ∷ ps) (x ∷ place_number p ps))) ++ links_from (k + 1) rows) [
+    (elim (nat_lt p x) as (λ b. cond b (record { class = k; parent = p } ∷ record { class = k; parent = x } ∷ links_to k ps ++ links_from (k + 1) rows) (cond (p == x) (record { class = k; parent = p } ∷ links_to k ps ++ links_from (k + 1) rows) (record { class = k; parent = x } ∷ place_link (record { class = k; parent = p }) (links_to k ps ++ links_from (k + 1) rows))) ≡ links_to k (cond b (p ∷ x ∷ ps) (cond (p == x) (p ∷ ps) (x ∷ place_number p ps))) ++ links_from (k + 1) rows) [
       | true ↦ refl
-      | false ↦ elim (p == x) as (λ b. cond b (record { class = k; parent = x } ∷ links_to k ps ++ links_from (k + 1) rows) (record { class = k; parent = x } ∷ place_link (record { class = k; parent = p }) (links_to k ps ++ links_from (k + 1) rows)) ≡ links_to k (cond b (x ∷ ps) (x ∷ place_number p ps)) ++ links_from (k + 1) rows) [
+      | false ↦ elim (p == x) as (λ b. cond b (record { class = k; parent = p } ∷ links_to k ps ++ links_from (k + 1) rows) (record { class = k; parent = x } ∷ place_link (record { class = k; parent = p }) (links_to k ps ++ links_from (k + 1) rows)) ≡ links_to k (cond b (p ∷ ps) (x ∷ place_number p ps)) ++ links_from (k + 1) rows) [
         | true ↦ refl
         | false ↦ ap (λ ls. record { class = k; parent = x } ∷ ls) rest
       ]

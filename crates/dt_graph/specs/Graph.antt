@@ -1,6 +1,7 @@
 -- The class graph: which classes are live, and which class has which parents. Classes are numbers.
-use Rattle.std.specs.Prelude.{◌==◌, ℕ, Bool, ◌&&◌, ◌||◌, IsTrue, if◌then◌else◌, nat_lt, List, [], ◌∷◌, count_by}
+use Rattle.std.specs.Prelude.{◌==◌, ℕ, Bool, ◌&&◌, ◌||◌, IsTrue, nat_lt, List, [], ◌∷◌, count_by}
 use Rattle.std.specs.List.{list_any}
+use Rattle.dt_graph.specs.InOrder.{Ascends, place}
 
 -- a class inherits from a parent
 pub record Link : Type 0 where
@@ -42,25 +43,15 @@ is_link_before a b = nat_lt a.class b.class || ((a.class == b.class) && nat_lt a
 
 -- each link stands before the next, so none stands twice
 abbrev pub AscendingLinks : List Link → Type 0
-AscendingLinks [] = Unit {0}
-AscendingLinks (a ∷ []) = Unit {0}
-AscendingLinks (a ∷ b ∷ links) = IsTrue (is_link_before a b) × AscendingLinks (b ∷ links)
+AscendingLinks links = Ascends (λ link. link) is_link_before links
 
 -- the numbers with one more, in ascending order; a number that is there already stays
 abbrev pub place_number : ℕ → List ℕ → List ℕ
-place_number number [] = number ∷ []
-place_number number (n ∷ numbers) =
-    if nat_lt number n
-    then number ∷ n ∷ numbers
-    else (if number == n then n ∷ numbers else n ∷ place_number number numbers)
+place_number number numbers = place (λ n. n) nat_lt (λ a b. a == b) number numbers
 
 -- the links with one more, in ascending order; a link that is there already stays
 abbrev pub place_link : Link → List Link → List Link
-place_link link [] = link ∷ []
-place_link link (l ∷ links) =
-    if is_link_before link l
-    then link ∷ l ∷ links
-    else (if is_link link.class link.parent l then l ∷ links else l ∷ place_link link links)
+place_link link links = place (λ l. l) is_link_before (λ a b. is_link a.class a.parent b) link links
 
 -- the links with one to each of these parents
 abbrev pub place_links : ℕ → List ℕ → List Link → List Link

@@ -1,14 +1,13 @@
 -- What holds of every class graph that changes make, beginning with the empty one.
-use Rattle.std.specs.Prelude.{ℕ, ◌<◌, ◌≤◌, IsTrue, nat_lt, List, [], ◌∷◌, All}
+use Rattle.std.specs.Prelude.{ℕ, ◌<◌, ◌≤◌, IsTrue, nat_lt, List, All}
+use Rattle.dt_graph.specs.InOrder.{Ascends}
 use Rattle.dt_graph.specs.Graph.{Graph, is_live, AscendingLinks, parent_count}
 use Rattle.dt_graph.specs.Below.{HasNoCycle}
 use Rattle.dt_graph.specs.declared.limits.TheConstants.{CLASSES, PARENTS}
 
 -- each number is below the next
 abbrev pub AscendingNumbers : List ℕ → Type 0
-AscendingNumbers [] = Unit {0}
-AscendingNumbers (a ∷ []) = Unit {0}
-AscendingNumbers (a ∷ b ∷ numbers) = IsTrue (nat_lt a b) × AscendingNumbers (b ∷ numbers)
+AscendingNumbers numbers = Ascends (λ n. n) nat_lt numbers
 
 -- a lawful class graph: classes and links ascend, so none stands twice; classes are in range; every link joins live
 -- classes; no class has more parents than the limit; and no links lead from a class to itself

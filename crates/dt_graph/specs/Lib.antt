@@ -1,3 +1,4 @@
+pub mod InOrder
 pub mod Refusal
 pub mod Graph
 pub mod GraphRows

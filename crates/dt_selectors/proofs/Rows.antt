@@ -55,10 +55,10 @@ place-at q a number zero (None ∷ rows) e h =
     place-first q a (number + 1) rows (omega arith) ∙ ap (λ n. record { number = n; arity = a } ∷ selectors_from (number + 1) rows) same
 place-at q a number zero (Some b ∷ rows) e h =
     let same : q ≡ number = omega arith in
-    rw (ltb-no q number (omega arith), eq-eqb q number same) (ap (λ n. record { number = n; arity = a } ∷ selectors_from (number + 1) rows) same)
+    rw (ltb-no q number (omega arith), eq-eqb number q (omega arith)) (ap (λ n. record { number = n; arity = a } ∷ selectors_from (number + 1) rows) same)
 place-at q a number (suc i) (None ∷ rows) e h = place-at q a (number + 1) i rows (omega arith) (omega arith)
 place-at q a number (suc i) (Some b ∷ rows) e h =
-    rw (ltb-no q number (omega arith), eqb-no_above q number (omega arith))
+    rw (ltb-no q number (omega arith), eqb-no number q (omega arith))
     (ap (λ rest. record { number = number; arity = b } ∷ rest) (place-at q a (number + 1) i rows (omega arith) (omega arith)))
 
 pub place-row : (rows : List (Option ℕ)) (i a : ℕ) → i < length rows

@@ -1,5 +1,6 @@
 -- What holds of all names and of all lists of selectors that the calls make.
-use Rattle.std.specs.Prelude.{◌≡◌, ℕ, ◌<◌, ◌≤◌, IsTrue, nat_lt, List, [], ◌∷◌, length, Some, slice_get, All}
+use Rattle.std.specs.Prelude.{◌≡◌, ℕ, ◌<◌, ◌≤◌, IsTrue, nat_lt, List, length, Some, slice_get, All}
+use Rattle.dt_graph.specs.InOrder.{Ascends}
 use Rattle.dt_selectors.specs.Names.{Names, is_name, place_of}
 use Rattle.dt_selectors.specs.Selectors.{Selector}
 use Rattle.dt_selectors.specs.declared.limits.TheConstants.{NAMES, SELECTORS}
@@ -18,9 +19,7 @@ pub record LawfulNames (names : Names) : Type 0 where
 
 -- each selector's number is below the next one's
 abbrev pub AscendingSelectors : List Selector → Type 0
-AscendingSelectors [] = Unit {0}
-AscendingSelectors (a ∷ []) = Unit {0}
-AscendingSelectors (a ∷ b ∷ selectors) = IsTrue (nat_lt a.number b.number) × AscendingSelectors (b ∷ selectors)
+AscendingSelectors selectors = Ascends (λ s. s.number) nat_lt selectors
 
 -- a selector in range
 abbrev pub LawfulSelector : Selector → Type 0

@@ -1,6 +1,7 @@
 -- The live selectors, each with how many arguments it takes.
-use Rattle.std.specs.Prelude.{◌==◌, ℕ, Bool, not, if◌then◌else◌, nat_lt, List, [], ◌∷◌, Option, is_some, find, filter}
+use Rattle.std.specs.Prelude.{◌==◌, ℕ, Bool, not, nat_lt, List, Option, is_some, find, filter}
 use Rattle.std.specs.Option.{option_map}
+use Rattle.dt_graph.specs.InOrder.{place}
 use Rattle.dt_graph.specs.Refusal.{cause_if}
 use Rattle.dt_selectors.specs.declared.selectors.SelectorFault.{SelectorFault}
 use Rattle.dt_selectors.specs.declared.selectors.SelectorFault.TheVariants.{SelectorExists, SelectorUnknown}
@@ -20,11 +21,7 @@ has_selector selectors selector = is_some (arity_in selectors selector)
 
 -- the selectors with one more, in ascending order; a selector that is there already is replaced
 abbrev pub place_selector : Selector → List Selector → List Selector
-place_selector selector [] = selector ∷ []
-place_selector selector (s ∷ selectors) =
-    if nat_lt selector.number s.number
-    then selector ∷ s ∷ selectors
-    else (if selector.number == s.number then selector ∷ selectors else s ∷ place_selector selector selectors)
+place_selector selector selectors = place (λ s. s.number) nat_lt (λ a b. b == a) selector selectors
 
 -- the selectors without this one
 abbrev pub without_selector : List Selector → ℕ → List Selector

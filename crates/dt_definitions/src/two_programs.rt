@@ -1,0 +1,178 @@
+ghost use Rattle.std.specs.Prelude.{◌≡◌, IfOk, IfErr};
+ghost use Rattle.dt_definitions.specs.Program.{empty_program};
+ghost use Rattle.dt_definitions.specs.Step.{AppliesBatch};
+ghost use Rattle.dt_definitions.specs.TwoPrograms.{IsSettledAt};
+
+use crate::batch::Batch;
+use crate::kept::Kept;
+use crate::program::Program;
+use crate::why::BatchFault;
+use dt_graph::NoMemory;
+use std::alloc::Global;
+use std::marker::Model;
+use std::mem;
+
+/// The program beside the one that stands.
+#[derive(Debug, Drop)]
+enum Second {
+    /// It is behind the one that stands, by this batch.
+    Behind {
+        program: Program,
+        batch: Batch,
+    },
+    /// It is before the one that stands, by this batch, which is tried; what was kept leads back.
+    Tried {
+        program: Program,
+        batch: Batch,
+        kept: Vec<Kept>,
+    },
+    /// There is none. A copy takes its place.
+    Gone,
+}
+
+/// A program as it stands, and the program after a batch that is tried. The batch is accepted or refused without
+/// memory.
+#[derive(Debug, Drop)]
+pub struct TwoPrograms {
+    alloc: Global,
+    stands: Program,
+    second: Second,
+}
+
+impl Model for TwoPrograms {
+    ghost use Rattle.dt_definitions.specs.TwoPrograms.{Two};
+
+    ghost Value = { Two };
+
+    ghost use Rattle.dt_definitions.specs.SecondProgram.{tried_or, IsSecondOf};
+
+    ghost view = { λ two. record { stands = two.stands; tried = tried_or two.stands two.second } };
+
+    ghost invariant = { λ two. IsSecondOf two.stands two.second };
+}
+
+impl TwoPrograms {
+    /// Two programs with nothing in them. [`NoMemory`] where none was found for the first; the second is made where a
+    /// batch is first tried.
+    pub fn new(alloc: Global) -> Result<TwoPrograms, NoMemory>
+        ensures { IfOk result (λ two. IsSettledAt empty_program two) }
+    {
+        Ok(TwoPrograms {
+            alloc,
+            stands: Program::new(alloc)?,
+            second: Second::Gone,
+        })
+    }
+
+    /// The program that stands.
+    pub fn stands(&self) -> &Program
+        ensures { result.now ≡ self.now.stands }
+    {
+        &self.stands
+    }
+
+    /// The program after the batch that is tried; where none is, the program that stands.
+    pub fn tried(&self) -> &Program
+        ensures { result.now ≡ self.now.tried }
+    {
+        match &self.second {
+            Second::Tried { program, .. } => program,
+            _ => &self.stands,
+        }
+    }
+
+    /// Takes the second program out, equal to the one that stands. [`NoMemory`] where none was found; then both are as
+    /// they were.
+    fn take_second(&mut self) -> Result<Program, NoMemory>
+        requires { IsSettledAt self.old.stands self.old }
+        ensures second { IfOk result (λ program. program ≡ self.old.stands) }
+        ensures stays { IsSettledAt self.old.stands self.new }
+    {
+        match mem::replace(&mut self.second, Second::Gone) {
+            Second::Behind { mut program, batch } => match program.apply_batch(&batch) {
+                Ok(()) => Ok(program),
+                Err(_) => {
+                    self.second = Second::Behind { program, batch };
+                    Err(NoMemory)
+                }
+            },
+            Second::Tried { program, .. } => Ok(program),
+            Second::Gone => self.stands.copy(),
+        }
+    }
+
+    /// Brings the second program up now, which [`TwoPrograms::try_batch`] does else. It changes nothing that is seen.
+    pub fn prepare(&mut self) -> Result<(), NoMemory>
+        requires { IsSettledAt self.old.stands self.old }
+        ensures { IsSettledAt self.old.stands self.new }
+    {
+        let program = self.take_second()?;
+        let batch = Batch::new(self.alloc);
+        self.second = Second::Behind { program, batch };
+        Ok(())
+    }
+
+    /// Tries the batch on the second program, as [`Program::apply_batch`] does: it is the new program, or the first edit
+    /// that is refused. The old program stays. After a refusal or want of memory both are as they were.
+    pub fn try_batch(&mut self, batch: Batch) -> Result<(), BatchFault>
+        requires { IsSettledAt self.old.stands self.old }
+        ensures applies { AppliesBatch self.old.stands batch self.new.tried result }
+        ensures stays { self.new.stands ≡ self.old.stands }
+    {
+        let Ok(mut program) = self.take_second() else {
+            return Err(BatchFault::NoMemory);
+        };
+        match program.apply_kept(&batch) {
+            Ok(kept) => {
+                self.second = Second::Tried {
+                    program,
+                    batch,
+                    kept,
+                };
+                Ok(())
+            }
+            Err(fault) => {
+                self.second = Second::Behind {
+                    program,
+                    batch: Batch::new(self.alloc),
+                };
+                Err(fault)
+            }
+        }
+    }
+
+    /// The new program stands from now on. It takes no memory, and time that doesn't grow with the programs or the batch:
+    /// the second program is brought up where the next batch is tried.
+    pub fn accept(&mut self)
+        ensures { IsSettledAt self.old.tried self.new }
+    {
+        match mem::replace(&mut self.second, Second::Gone) {
+            Second::Tried { program, batch, .. } => {
+                let program = mem::replace(&mut self.stands, program);
+                self.second = Second::Behind { program, batch };
+            }
+            second => self.second = second,
+        }
+    }
+
+    /// The old program stands on. It takes no memory: what the batch changed in the second program is restored.
+    pub fn refuse(&mut self)
+        ensures { IsSettledAt self.old.stands self.new }
+    {
+        match mem::replace(&mut self.second, Second::Gone) {
+            Second::Tried {
+                mut program,
+                kept,
+                ..
+            } => {
+                if program.undo(kept).is_ok() {
+                    self.second = Second::Behind {
+                        program,
+                        batch: Batch::new(self.alloc),
+                    };
+                }
+            }
+            second => self.second = second,
+        }
+    }
+}

@@ -1,0 +1,187 @@
+-- Lists in strict order stay so where an element is placed and where some are left out; and a change is undone.
+use Rattle.std.proofs.Common.{◌≡◌, Bool, true, false, not, cond, IsTrue, List, [], ◌∷◌, None, Some, Option, All, filter, find, refl, sym, ap, subst, ◌∙◌, arith}
+use Rattle.std.proofs.lemmas.Bool.{cond_both, false≢true}
+use Rattle.std.proofs.lemmas.List.Elements.{All-nil, All-cons, All-head, All-tail, All-weaker, All-filter}
+use Rattle.dt_graph.specs.InOrder.{StrictOrder, Ascends, place, find_at, without, restore}
+
+module _ {X K : Type 0} (key : X → K) (before same : K → K → Bool) (order : StrictOrder before same) where
+  abbrev BeforeAll : K → List X → Type 0
+  BeforeAll k xs = All (λ x. IsTrue (before k (key x))) xs
+
+  pub first_before_all : (a : X) (xs : List X) → Ascends key before (a ∷ xs) → BeforeAll (key a) xs
+  first_before_all a [] u = All-nil (λ x. IsTrue (before (key a) (key x)))
+  first_before_all a (b ∷ xs) u = All-cons (λ x. IsTrue (before (key a) (key x))) b xs u.0
+      (All-weaker (λ x. IsTrue (before (key b) (key x))) (λ x. IsTrue (before (key a) (key x)))
+      (λ x h. order.transitive (key a) (key b) (key x) u.0 h) xs (first_before_all b xs u.1))
+
+  pub Ascends-tail : (a : X) (xs : List X) → Ascends key before (a ∷ xs) → Ascends key before xs
+  Ascends-tail a [] u = tt
+  Ascends-tail a (b ∷ xs) u = u.1
+
+  pub Ascends-cons : (a : X) (xs : List X) → BeforeAll (key a) xs → Ascends key before xs → Ascends key before (a ∷ xs)
+  Ascends-cons a [] all u = tt
+  Ascends-cons a (b ∷ xs) all u = (All-head (λ x. IsTrue (before (key a) (key x))) b xs all, u)
+
+  pub Ascends-filter : (test : X → Bool) (xs : List X) → Ascends key before xs → Ascends key before (filter test xs)
+  Ascends-filter test [] u = tt
+  Ascends-filter test (a ∷ xs) u =
+      let rest = Ascends-filter test xs (Ascends-tail a xs u) in
+      cond_both (test a) (a ∷ filter test xs) (filter test xs) (Ascends key before)
+      (λ _. Ascends-cons a (filter test xs) (All-filter test (λ x. IsTrue (before (key a) (key x))) xs (first_before_all a xs u)) rest)
+      (λ _. rest)
+
+  -- a proof for each of the places where an element may go
+  pub placed : (P : List X → Type 0) (new x : X) (xs : List X)
+      → (IsTrue (before (key new) (key x)) → P (new ∷ x ∷ xs))
+      → (before (key new) (key x) ≡ false → IsTrue (same (key new) (key x)) → P (new ∷ xs))
+      → (before (key new) (key x) ≡ false → same (key new) (key x) ≡ false → P (x ∷ place key before same new xs))
+      → P (place key before same new (x ∷ xs))
+  placed P new x xs first here later =
+      cond_both (before (key new) (key x)) (new ∷ x ∷ xs) (cond (same (key new) (key x)) (new ∷ xs) (x ∷ place key before same new xs)) P
+      first (λ b. cond_both (same (key new) (key x)) (new ∷ xs) (x ∷ place key before same new xs) P (here b) (later b))
+
+  pub All-place : (P : X → Type 0) (new : X) (xs : List X) → P new → All P xs → All P (place key before same new xs)
+  All-place P new [] one all = All-cons P new [] one all
+  All-place P new (x ∷ xs) one all = placed (All P) new x xs
+      (λ _. All-cons P new (x ∷ xs) one all)
+      (λ _ _. All-cons P new xs one (All-tail P x xs all))
+      (λ _ _. All-cons P x (place key before same new xs) (All-head P x xs all) (All-place P new xs one (All-tail P x xs all)))
+
+  pub Ascends-place : (new : X) (xs : List X) → Ascends key before xs → Ascends key before (place key before same new xs)
+  Ascends-place new [] u = tt
+  Ascends-place new (x ∷ xs) u = placed (Ascends key before) new x xs
+      (λ b. (b, u))
+      (λ _ s. Ascends-cons new xs (subst (λ k. BeforeAll k xs) (sym (order.equal (key new) (key x) s)) (first_before_all x xs u)) (Ascends-tail x xs u))
+      (λ b s. Ascends-cons x (place key before same new xs)
+      (All-place (λ y. IsTrue (before (key x) (key y))) new xs (order.total (key new) (key x) b s) (first_before_all x xs u))
+      (Ascends-place new xs (Ascends-tail x xs u)))
+
+  -- ---- what stands before all is not among them
+
+  not_same : (k : K) (x : X) → IsTrue (before k (key x)) → same k (key x) ≡ false
+  not_same k x b =
+      elim (same k (key x)) as (λ t. same k (key x) ≡ t → t ≡ false) [
+        | true ↦ λ s. absurd (false≢true (sym (order.irreflexive k) ∙ subst (λ q. before k q ≡ true) (sym (order.equal k (key x) s)) b))
+        | false ↦ λ s. refl
+      ] refl
+
+  pub none_found : (k : K) (xs : List X) → BeforeAll k xs → find_at key same k xs ≡ None
+  none_found k [] all = refl
+  none_found k (x ∷ xs) all =
+      rw (not_same k x (All-head (λ y. IsTrue (before k (key y))) x xs all))
+      (none_found k xs (All-tail (λ y. IsTrue (before k (key y))) x xs all))
+
+  pub without_none : (k : K) (xs : List X) → find_at key same k xs ≡ None → without key same k xs ≡ xs
+  without_none k [] h = refl
+  without_none k (x ∷ xs) h =
+      elim (same k (key x)) as (λ t. same k (key x) ≡ t → without key same k (x ∷ xs) ≡ x ∷ xs) [
+        | true ↦ λ s. absurd (let q = rw s at h in cc)
+        | false ↦ λ s. rw s (ap (λ ys. x ∷ ys) (without_none k xs (rw s at h)))
+      ] refl
+
+  place_first : (d : X) (xs : List X) → BeforeAll (key d) xs → place key before same d xs ≡ d ∷ xs
+  place_first d [] all = refl
+  place_first d (x ∷ xs) all = rw (All-head (λ y. IsTrue (before (key d) (key y))) x xs all) refl
+
+  -- ---- undoing
+
+  -- what is placed goes again
+  pub remove_placed : (d : X) (xs : List X) → find_at key same (key d) xs ≡ None → without key same (key d) (place key before same d xs) ≡ xs
+  remove_placed d [] h = rw (order.reflexive (key d)) refl
+  remove_placed d (x ∷ xs) h =
+      let stays = without_none (key d) (x ∷ xs) h in
+      elim (same (key d) (key x)) as (λ t. same (key d) (key x) ≡ t → without key same (key d) (place key before same d (x ∷ xs)) ≡ x ∷ xs) [
+        | true ↦ λ s. absurd (let q = rw s at h in cc)
+        | false ↦ λ s. placed (λ ys. without key same (key d) ys ≡ x ∷ xs) d x xs
+            (λ _. rw (order.reflexive (key d)) stays)
+            (λ _ e. absurd (false≢true (sym s ∙ e)))
+            (λ _ _. rw s (ap (λ ys. x ∷ ys) (remove_placed d xs (rw s at h))))
+      ] refl
+
+  -- an element that is found has the key
+  pub found_key : (k : K) (xs : List X) (old : X) → find_at key same k xs ≡ Some old → key old ≡ k
+  found_key k [] old h = absurd cc
+  found_key k (x ∷ xs) old h =
+      elim (same k (key x)) as (λ t. same k (key x) ≡ t → key old ≡ k) [
+        | true ↦ λ s. let q : x ≡ old = (let e = rw s at h in cc) in subst (λ y. key y ≡ k) q (sym (order.equal k (key x) s))
+        | false ↦ λ s. found_key k xs old (rw s at h)
+      ] refl
+
+  -- an element goes back behind one that stands before it
+  place_behind : (old x : X) (k : K) (xs : List X) → key old ≡ k → before k (key x) ≡ false → same k (key x) ≡ false
+      → place key before same old (x ∷ xs) ≡ x ∷ place key before same old xs
+  place_behind old x k xs e b s =
+      let b' = subst (λ q. before q (key x) ≡ false) (sym e) b in
+      let s' = subst (λ q. same q (key x) ≡ false) (sym e) s in
+      rw (b', s') refl
+
+  -- and in place of one with its key
+  place_over : (old d : X) (xs : List X) → key old ≡ key d → place key before same old (d ∷ xs) ≡ old ∷ xs
+  place_over old d xs e =
+      let b = subst (λ q. before q (key d) ≡ false) (sym e) (order.irreflexive (key d)) in
+      let s = subst (λ q. same q (key d) ≡ true) (sym e) (order.reflexive (key d)) in
+      rw (b, s) refl
+
+  -- a key that stands before the first is not there
+  not_before : (k : K) (x : X) (xs : List X) (old : X) → Ascends key before (x ∷ xs) → find_at key same k (x ∷ xs) ≡ Some old
+      → before k (key x) ≡ true → ⊥
+  not_before k x xs old u h b =
+      let rest = All-weaker (λ y. IsTrue (before (key x) (key y))) (λ y. IsTrue (before k (key y)))
+          (λ y l. order.transitive k (key x) (key y) b l) xs (first_before_all x xs u) in
+      let none = none_found k (x ∷ xs) (All-cons (λ y. IsTrue (before k (key y))) x xs b rest) in
+      absurd cc
+
+  put_back_replaced : (d old : X) (xs : List X) → Ascends key before xs → find_at key same (key d) xs ≡ Some old
+      → place key before same old (place key before same d xs) ≡ xs
+  put_back_replaced d old [] u h = absurd cc
+  put_back_replaced d old (x ∷ xs) u h =
+      let k = found_key (key d) (x ∷ xs) old h in
+      elim (same (key d) (key x)) as (λ t. same (key d) (key x) ≡ t → place key before same old (place key before same d (x ∷ xs)) ≡ x ∷ xs) [
+        | true ↦ λ s.
+            let one : x ≡ old = (let e = rw s at h in cc) in
+            placed (λ ys. place key before same old ys ≡ x ∷ xs) d x xs
+            (λ b. absurd (not_before (key d) x xs old u h b))
+            (λ _ _. place_over old d xs k ∙ ap (λ y. y ∷ xs) (sym one))
+            (λ _ e. absurd (false≢true (sym e ∙ s)))
+        | false ↦ λ s. placed (λ ys. place key before same old ys ≡ x ∷ xs) d x xs
+            (λ b. absurd (not_before (key d) x xs old u h b))
+            (λ _ e. absurd (false≢true (sym s ∙ e)))
+            (λ b e. place_behind old x (key d) (place key before same d xs) k b e
+            ∙ ap (λ ys. x ∷ ys) (put_back_replaced d old xs (Ascends-tail x xs u) (rw s at h)))
+      ] refl
+
+  pub put_back_removed : (k : K) (old : X) (xs : List X) → Ascends key before xs → find_at key same k xs ≡ Some old
+      → place key before same old (without key same k xs) ≡ xs
+  put_back_removed k old [] u h = absurd cc
+  put_back_removed k old (x ∷ xs) u h =
+      let e = found_key k (x ∷ xs) old h in
+      elim (same k (key x)) as (λ t. same k (key x) ≡ t → place key before same old (without key same k (x ∷ xs)) ≡ x ∷ xs) [
+        | true ↦ λ s.
+            let one : x ≡ old = (let e = rw s at h in cc) in
+            let all = first_before_all x xs u in
+            let stays = without_none k xs (none_found k xs (subst (λ q. BeforeAll q xs) (sym (order.equal k (key x) s)) all)) in
+            rw s (ap (place key before same old) stays ∙ subst (λ y. place key before same y xs ≡ x ∷ xs) one (place_first x xs all))
+        | false ↦ λ s.
+            let b : before k (key x) ≡ false = elim (before k (key x)) as (λ t. before k (key x) ≡ t → t ≡ false) [
+              | true ↦ λ b. absurd (not_before k x xs old u h b)
+              | false ↦ λ b. refl
+            ] refl in
+            rw s (place_behind old x k (without key same k xs) e b s
+            ∙ ap (λ ys. x ∷ ys) (put_back_removed k old xs (Ascends-tail x xs u) (rw s at h)))
+      ] refl
+
+  pub placing-undone : (d : X) (xs : List X) → Ascends key before xs
+      → restore key before same (key d) (find_at key same (key d) xs) (place key before same d xs) ≡ xs
+  placing-undone d xs u =
+      elim (find_at key same (key d) xs) as (λ o. find_at key same (key d) xs ≡ o → restore key before same (key d) o (place key before same d xs) ≡ xs) [
+        | None ↦ λ none. remove_placed d xs none
+        | (Some old) ↦ λ there. put_back_replaced d old xs u there
+      ] refl
+
+  pub removing-undone : (k : K) (xs : List X) → Ascends key before xs
+      → restore key before same k (find_at key same k xs) (without key same k xs) ≡ xs
+  removing-undone k xs u =
+      elim (find_at key same k xs) as (λ o. find_at key same k xs ≡ o → restore key before same k o (without key same k xs) ≡ xs) [
+        | None ↦ λ none. let stays = without_none k xs none in ap (without key same k) stays ∙ stays
+        | (Some old) ↦ λ there. put_back_removed k old xs u there
+      ] refl

@@ -1,0 +1,36 @@
+-- Lists in strict order of a key: each element stands before the next, so no key stands twice.
+use Rattle.std.specs.Prelude.{◌≡◌, Bool, false, true, not, IsTrue, if◌then◌else◌, List, [], ◌∷◌, Option, None, Some, filter, find}
+
+-- keys in strict order: one stands before another, the other before the one, or they are equal
+pub record StrictOrder {K : Type 0} (before same : K → K → Bool) : Type 0 where
+  pub transitive : (a b c : K) → IsTrue (before a b) → IsTrue (before b c) → IsTrue (before a c)
+  pub irreflexive : (a : K) → before a a ≡ false
+  pub total : (a b : K) → before a b ≡ false → same a b ≡ false → IsTrue (before b a)
+  pub equal : (a b : K) → IsTrue (same a b) → a ≡ b
+  pub reflexive : (a : K) → IsTrue (same a a)
+
+-- each element stands before the next
+abbrev pub Ascends : {X K : Type 0} → (X → K) → (K → K → Bool) → List X → Type 0
+Ascends key before [] = Unit {0}
+Ascends key before (a ∷ []) = Unit {0}
+Ascends key before (a ∷ b ∷ xs) = IsTrue (before (key a) (key b)) × Ascends key before (b ∷ xs)
+
+-- the list with this element in its place; one with the same key goes
+abbrev pub place : {X K : Type 0} → (X → K) → (K → K → Bool) → (K → K → Bool) → X → List X → List X
+place key before same new [] = new ∷ []
+place key before same new (x ∷ xs) =
+    if before (key new) (key x)
+    then new ∷ x ∷ xs
+    else (if same (key new) (key x) then new ∷ xs else x ∷ place key before same new xs)
+
+-- the element with this key, and the list without it
+abbrev pub find_at : {X K : Type 0} → (X → K) → (K → K → Bool) → K → List X → Option X
+find_at key same k xs = find (λ x. same k (key x)) xs
+
+abbrev pub without : {X K : Type 0} → (X → K) → (K → K → Bool) → K → List X → List X
+without key same k xs = filter (λ x. not (same k (key x))) xs
+
+-- the list with what was there at this key
+abbrev pub restore : {X K : Type 0} → (X → K) → (K → K → Bool) → (K → K → Bool) → K → Option X → List X → List X
+restore key before same k None xs = without key same k xs
+restore key before same k (Some old) xs = place key before same old xs
