@@ -101,17 +101,6 @@ impl TwoPrograms {
         }
     }
 
-    /// Brings the second program up now, which [`TwoPrograms::try_batch`] does else. It changes nothing that is seen.
-    pub fn prepare(&mut self) -> Result<(), NoMemory>
-        requires { IsSettledAt self.old.stands self.old }
-        ensures { IsSettledAt self.old.stands self.new }
-    {
-        let program = self.take_second()?;
-        let batch = Batch::new(self.alloc);
-        self.second = Second::Behind { program, batch };
-        Ok(())
-    }
-
     /// Tries the batch on the second program, as [`Program::apply_batch`] does: it is the new program, or the first edit
     /// that is refused. The old program stays. After a refusal or want of memory both are as they were.
     pub fn try_batch(&mut self, batch: Batch) -> Result<(), BatchFault>

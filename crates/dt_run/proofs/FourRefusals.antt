@@ -49,7 +49,7 @@ placed_by false false new s selectors rest one sone ones more = (sone, more)
 ones_placed : (new : Selector) (selectors : List Selector) → new.arity ≡ 1 → AllOnes selectors → AllOnes (place_selector new selectors)
 ones_placed new [] one ones = (one, tt)
 ones_placed new (s ∷ selectors) one ones =
-    placed_by (nat_lt new.number s.number) (new.number == s.number) new s selectors (place_selector new selectors) one ones.0 ones.1 (ones_placed new selectors one ones.1)
+    placed_by (nat_lt new.number s.number) (s.number == new.number) new s selectors (place_selector new selectors) one ones.0 ones.1 (ones_placed new selectors one ones.1)
 
 longer_by : (b c : Bool) (new d : Definition) (definitions rest : List Definition) → length rest ≤ length definitions + 1 → length (cond b (new ∷ d ∷ definitions) (cond c (new ∷ definitions) (d ∷ rest))) ≤ length (d ∷ definitions) + 1
 longer_by true c new d definitions rest h = omega arith
