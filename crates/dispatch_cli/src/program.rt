@@ -1,12 +1,10 @@
 ghost use Rattle.std.specs.Prelude.{◌≡◌, ◌≢◌, ◌<◌, ◌↔◌, ◌⊎◌, ℕ, List, Option, IfOk, IfSome, MatchResult, map, drop, string_bytes};
 ghost use Rattle.std.specs.Vec.Iter.{into_iter_items};
 ghost use Rattle.dt_run.specs.Outside.{Rose};
-ghost use Rattle.dt_run.specs.Putting.{AppendsPrefix};
 ghost use Rattle.dt_run.specs.Line as line;
-ghost use Rattle.dt_run.specs.Log as log;
 ghost use Rattle.dt_run.specs.FirstScript.{IsFirstScript};
-ghost use Rattle.dt_run.specs.Status.{number_of};
-ghost use Rattle.dt_run.specs.Run.{run_words, usage_text, script_text, read_text, memory_text, IsNoScript, Told, WereRead, IsDone, IsCutShort};
+ghost use Rattle.dt_run.specs.Run.{run_words};
+ghost use Rattle.dt_run.specs.Ending.{outside, EndsAs};
 
 use crate::command_line::words_of;
 use dt_graph::NoMemory;
@@ -26,20 +24,11 @@ pub fn exit_status<H: Threads + Sync, S: Source, K: Sink>(
     source: &mut S,
     sink: &mut K,
 ) -> u8
-    // What each exit status says.
-    ensures done { result ≡ 0 → (bytes : List ℕ) × WereRead (S.left source.old) (S.left source.new) bytes
-        × ((handed : Option log.Log) × IsDone bytes (K.taken sink.old) (K.taken sink.new) handed) }
-    ensures usage { result ≡ 2 → (source.new ≡ source.old)
-        × Told (K.taken sink.old) (K.taken sink.new) (K.faults sink.old) (K.faults sink.new) usage_text }
-    ensures script { result ≡ 3 → IfSome (S.left source.old) IsNoScript
-        × Told (K.taken sink.old) (K.taken sink.new) (K.faults sink.old) (K.faults sink.new) script_text }
-    ensures read_fault { result ≡ 4 → Rose (S.faults source.old) (S.faults source.new)
-        × Told (K.taken sink.old) (K.taken sink.new) (K.faults sink.old) (K.faults sink.new) read_text }
-    ensures write_fault { result ≡ 5 → Rose (K.faults sink.old) (K.faults sink.new)
-        × ((bytes : List ℕ) × WereRead (S.left source.old) (S.left source.new) bytes
-        × ((handed : Option log.Log) × IsCutShort bytes (K.taken sink.old) (K.taken sink.new) handed)) }
-    ensures no_memory { result ≡ 6 → AppendsPrefix (K.taken sink.old) (K.taken sink.new) memory_text }
-    ensures known { (status : Status) × (result ≡ number_of status) }
+    // How it ends: as a run does; or memory was wanted for the words, and nothing was read or put.
+    ensures ends { EndsAs result
+        (outside (S.left source.old) (S.faults source.old) (K.taken sink.old) (K.faults sink.old))
+        (outside (S.left source.new) (S.faults source.new) (K.taken sink.new) (K.faults sink.new)) }
+    ensures usage_unread { result ≡ 2 → source.new ≡ source.old }
 
     // The words decide whether there is a command, unless memory is wanted.
     ensures words { result ≢ 6 → MatchResult args

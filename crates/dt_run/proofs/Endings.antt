@@ -1,12 +1,12 @@
--- What follows for an ending from what the other endings say.
+-- What follows of how a run ends.
 use Rattle.std.proofs.Common.{◌≡◌, ◌≢◌, ℕ, List, [], Option, Some, None, ◌⊎◌, inl, inr, refl, sym, subst, arith}
 use Rattle.std.specs.Prelude.{IfSome}
-use Rattle.std.specs.Io.KnownBytes.{Appends}
 use Rattle.dt_run.specs.Line.{Line}
 use Rattle.dt_run.specs.FirstScript.{IsFirstScript}
 use Rattle.dt_run.specs.Log.{Log}
-use Rattle.dt_run.specs.Putting.{AppendsPrefix}
+use Rattle.dt_run.specs.Outside.{Rose}
 use Rattle.dt_run.specs.Run.{IsNoScript, IsRunOf, WereRead, IsDone, IsCutShort}
+use Rattle.dt_run.specs.Ending.{Outside, IsNoScriptRead, Ending, Printed}
 use Rattle.dt_run.specs.declared.status.Status.{Status}
 use Rattle.dt_run.specs.declared.status.Status.TheVariants.{Done, Usage, Script, ReadFault, WriteFault, NoMemory}
 use Rattle.dt_run.proofs.Short.{first_script_is_short}
@@ -15,6 +15,10 @@ use Rattle.dt_run.proofs.Short.{first_script_is_short}
 pub no_script : (bytes : List ℕ) (lines : List Line) → IsFirstScript bytes lines → IsNoScript bytes → ⊥
 no_script bytes lines s (inl long) = omega (arith, first_script_is_short bytes lines s, long)
 no_script bytes lines s (inr none) = none lines s
+
+no_script_read : (rest : Option (List ℕ)) (bytes : List ℕ) (lines : List Line) → IsFirstScript bytes lines → IsNoScriptRead rest bytes → ⊥
+no_script_read rest bytes lines s (inl long) = no_script bytes lines s (inl long)
+no_script_read rest bytes lines s (inr none) = none.1 lines s
 
 done_is_script : (bytes : List ℕ) (before after : Option (List ℕ)) (handed : Option Log) → IsDone bytes before after handed → IsNoScript bytes → ⊥
 done_is_script bytes before after None done none = absurd done
@@ -29,67 +33,66 @@ read_all : (left rest : Option (List ℕ)) (bytes : List ℕ) → IfSome left (�
 read_all None rest bytes same end = tt
 read_all (Some told) rest bytes same end = (same, end)
 
--- what was read, performed and printed is done
-pub done_of : (left rest before after : Option (List ℕ)) (bytes text : List ℕ) (handed : Option Log) (log : Log) → IfSome left (λ told. bytes ≡ told) → IfSome left (λ told. rest ≡ Some []) → handed ≡ Some log → IsRunOf bytes log text → Appends before after text → (b : List ℕ) × WereRead left rest b × IsDone b before after handed
-done_of left rest before after bytes text handed log same end is run put =
-    (bytes, read_all left rest bytes same end, subst (λ (h : Option Log). IsDone bytes before after h) (sym is) (text, run, put))
-
--- and so it is where the sink took a prefix
-pub cut_short_of : (left rest before after : Option (List ℕ)) (bytes text : List ℕ) (handed : Option Log) (log : Log) → IfSome left (λ told. bytes ≡ told) → IfSome left (λ told. rest ≡ Some []) → handed ≡ Some log → IsRunOf bytes log text → AppendsPrefix before after text → (b : List ℕ) × WereRead left rest b × IsCutShort b before after handed
-cut_short_of left rest before after bytes text handed log same end is run put =
-    (bytes, read_all left rest bytes same end, subst (λ (h : Option Log). IsCutShort bytes before after h) (sym is) (text, run, put))
-
--- what the endings say of the bytes of a source
-pub record Endings (status : Status) (bytes : List ℕ) (before after : Option (List ℕ)) (handed : Option Log) (source_rose sink_rose : Type 0) : Type 0 where
-  pub at_done : status ≡ Done → IsDone bytes before after handed
-  pub at_write_fault : status ≡ WriteFault → sink_rose × IsCutShort bytes before after handed
-  pub at_script : status ≡ Script → IsNoScript bytes
-  pub at_read_fault : status ≡ ReadFault → source_rose
-  pub at_usage : status ≢ Usage
+-- what was read, performed and printed ends as it was printed
+pub ends_printed : (status : Status) (handed : Option Log) (old new : Outside) (bytes text : List ℕ) (log : Log)
+    → IfSome old.left (λ told. bytes ≡ told) → IfSome old.left (λ told. new.left ≡ Some [])
+    → handed ≡ Some log → IsRunOf bytes log text → Printed status old.taken new.taken old.put_faults new.put_faults text
+    → Ending status handed old new
+ends_printed Done handed old new bytes text log same end is run put =
+    (bytes, read_all old.left new.left bytes same end, subst (λ (h : Option Log). IsDone bytes old.taken new.taken h) (sym is) (text, run, put))
+ends_printed WriteFault handed old new bytes text log same end is run put =
+    (put.0, (bytes, read_all old.left new.left bytes same end, subst (λ (h : Option Log). IsCutShort bytes old.taken new.taken h) (sym is) (text, run, put.1)))
+ends_printed Usage handed old new bytes text log same end is run put = absurd put
+ends_printed Script handed old new bytes text log same end is run put = absurd put
+ends_printed ReadFault handed old new bytes text log same end is run put = absurd put
+ends_printed NoMemory handed old new bytes text log same end is run put = absurd put
 
 -- bytes that are no script are found
-pub always_script : (status : Status) (bytes : List ℕ) (before after : Option (List ℕ)) (handed : Option Log) (source_rose sink_rose : Type 0) → Endings status bytes before after handed source_rose sink_rose → (source_rose → ⊥) → IsNoScript bytes → (status ≡ Script) ⊎ (status ≡ NoMemory)
-always_script Done bytes before after handed source_rose sink_rose e calm none = absurd (done_is_script bytes before after handed (e.at_done refl) none)
-always_script Usage bytes before after handed source_rose sink_rose e calm none = absurd (e.at_usage refl)
-always_script Script bytes before after handed source_rose sink_rose e calm none = inl refl
-always_script ReadFault bytes before after handed source_rose sink_rose e calm none = absurd (calm (e.at_read_fault refl))
-always_script WriteFault bytes before after handed source_rose sink_rose e calm none = absurd (cut_is_script bytes before after handed (e.at_write_fault refl).1 none)
-always_script NoMemory bytes before after handed source_rose sink_rose e calm none = inr refl
+script_found : (status : Status) (handed : Option Log) (bytes : List ℕ) (old new : Outside) → old.left ≡ Some bytes
+    → Ending status handed old new → status ≢ Usage → (Rose old.read_faults new.read_faults → ⊥)
+    → IsNoScript bytes → (status ≡ Script) ⊎ (status ≡ NoMemory)
+script_found Done handed bytes old new told e used calm none =
+    absurd (done_is_script e.0 old.taken new.taken handed e.2 (subst IsNoScript (sym (rw told at e.1).0) none))
+script_found Usage handed bytes old new told e used calm none = absurd (used refl)
+script_found Script handed bytes old new told e used calm none = inl refl
+script_found ReadFault handed bytes old new told e used calm none = absurd (calm e.0)
+script_found WriteFault handed bytes old new told e used calm none =
+    absurd (cut_is_script e.1.0 old.taken new.taken handed e.1.2 (subst IsNoScript (sym (rw told at e.1.1).0) none))
+script_found NoMemory handed bytes old new told e used calm none = inr refl
 
 -- a first script is performed
-pub always_done : (status : Status) (bytes : List ℕ) (before after : Option (List ℕ)) (handed : Option Log) (source_rose sink_rose : Type 0) → Endings status bytes before after handed source_rose sink_rose → (source_rose → ⊥) → (sink_rose → ⊥) → (lines : List Line) → IsFirstScript bytes lines → (status ≡ Done) ⊎ (status ≡ NoMemory)
-always_done Done bytes before after handed source_rose sink_rose e calm calm_sink lines s = inl refl
-always_done Usage bytes before after handed source_rose sink_rose e calm calm_sink lines s = absurd (e.at_usage refl)
-always_done Script bytes before after handed source_rose sink_rose e calm calm_sink lines s = absurd (no_script bytes lines s (e.at_script refl))
-always_done ReadFault bytes before after handed source_rose sink_rose e calm calm_sink lines s = absurd (calm (e.at_read_fault refl))
-always_done WriteFault bytes before after handed source_rose sink_rose e calm calm_sink lines s = absurd (calm_sink (e.at_write_fault refl).0)
-always_done NoMemory bytes before after handed source_rose sink_rose e calm calm_sink lines s = inr refl
+script_done : (status : Status) (handed : Option Log) (bytes : List ℕ) (old new : Outside) → old.left ≡ Some bytes
+    → Ending status handed old new → status ≢ Usage → (Rose old.read_faults new.read_faults → ⊥)
+    → (Rose old.put_faults new.put_faults → ⊥)
+    → (lines : List Line) → IsFirstScript bytes lines → (status ≡ Done) ⊎ (status ≡ NoMemory)
+script_done Done handed bytes old new told e used calm calm_sink lines s = inl refl
+script_done Usage handed bytes old new told e used calm calm_sink lines s = absurd (used refl)
+script_done Script handed bytes old new told e used calm calm_sink lines s = absurd (no_script_read new.left bytes lines s (rw told at e.0))
+script_done ReadFault handed bytes old new told e used calm calm_sink lines s = absurd (calm e.0)
+script_done WriteFault handed bytes old new told e used calm calm_sink lines s = absurd (calm_sink e.0)
+script_done NoMemory handed bytes old new told e used calm calm_sink lines s = inr refl
 
--- the same, where the source may not tell its bytes
-pub record EndingsOf (status : Status) (left rest before after : Option (List ℕ)) (handed : Option Log) (source_rose sink_rose : Type 0) : Type 0 where
-  pub at_done : status ≡ Done → (bytes : List ℕ) × WereRead left rest bytes × IsDone bytes before after handed
-  pub at_write_fault : status ≡ WriteFault → sink_rose × ((bytes : List ℕ) × WereRead left rest bytes × IsCutShort bytes before after handed)
-  pub at_script : status ≡ Script → IfSome left IsNoScript
-  pub at_read_fault : status ≡ ReadFault → source_rose
-  pub at_usage : status ≢ Usage
+-- where the bytes are told
+where_told : (left : Option (List ℕ)) (P : List ℕ → Type 0) → ((bytes : List ℕ) → left ≡ Some bytes → P bytes) → IfSome left P
+where_told None P p = tt
+where_told (Some bytes) P p = p bytes refl
 
-of_bytes : (status : Status) (bytes : List ℕ) (rest before after : Option (List ℕ)) (handed : Option Log) (source_rose sink_rose : Type 0) → EndingsOf status (Some bytes) rest before after handed source_rose sink_rose → Endings status bytes before after handed source_rose sink_rose
-of_bytes status bytes rest before after handed source_rose sink_rose e = record {
-  at_done = λ d. let done = e.at_done d in subst (λ (b : List ℕ). IsDone b before after handed) done.1.0 done.2;
-  at_write_fault = λ d.
-      let cut = e.at_write_fault d in
-      (cut.0, subst (λ (b : List ℕ). IsCutShort b before after handed) cut.1.1.0 cut.1.2);
-  at_script = e.at_script;
-  at_read_fault = e.at_read_fault;
-  at_usage = e.at_usage;
-}
+pub always_script : (status : Status) (handed : Option Log) (old new : Outside) → Ending status handed old new
+    → status ≢ Usage → (Rose old.read_faults new.read_faults → ⊥)
+    → IfSome old.left (λ bytes. IsNoScript bytes → (status ≡ Script) ⊎ (status ≡ NoMemory))
+always_script status handed old new e used calm =
+    where_told old.left _ (λ bytes told. script_found status handed bytes old new told e used calm)
 
-pub always_script_of : (status : Status) (left rest before after : Option (List ℕ)) (handed : Option Log) (source_rose sink_rose : Type 0) → EndingsOf status left rest before after handed source_rose sink_rose → (source_rose → ⊥) → IfSome left (λ bytes. IsNoScript bytes → (status ≡ Script) ⊎ (status ≡ NoMemory))
-always_script_of status None rest before after handed source_rose sink_rose e calm = tt
-always_script_of status (Some bytes) rest before after handed source_rose sink_rose e calm =
-    always_script status bytes before after handed source_rose sink_rose (of_bytes status bytes rest before after handed source_rose sink_rose e) calm
+pub always_done : (status : Status) (handed : Option Log) (old new : Outside) → Ending status handed old new
+    → status ≢ Usage → (Rose old.read_faults new.read_faults → ⊥) → (Rose old.put_faults new.put_faults → ⊥)
+    → IfSome old.left (λ bytes. (lines : List Line) → IsFirstScript bytes lines → (status ≡ Done) ⊎ (status ≡ NoMemory))
+always_done status handed old new e used calm calm_sink =
+    where_told old.left _ (λ bytes told. script_done status handed bytes old new told e used calm calm_sink)
 
-pub always_done_of : (status : Status) (left rest before after : Option (List ℕ)) (handed : Option Log) (source_rose sink_rose : Type 0) → EndingsOf status left rest before after handed source_rose sink_rose → (source_rose → ⊥) → (sink_rose → ⊥) → IfSome left (λ bytes. (lines : List Line) → IsFirstScript bytes lines → (status ≡ Done) ⊎ (status ≡ NoMemory))
-always_done_of status None rest before after handed source_rose sink_rose e calm calm_sink = tt
-always_done_of status (Some bytes) rest before after handed source_rose sink_rose e calm calm_sink =
-    always_done status bytes before after handed source_rose sink_rose (of_bytes status bytes rest before after handed source_rose sink_rose e) calm calm_sink
+-- bytes that were read to the end and are no first script
+pub no_script_told : (left rest : Option (List ℕ)) (bytes : List ℕ) → IfSome left (λ told. bytes ≡ told)
+    → IfSome left (λ told. rest ≡ Some []) → ((lines : List Line) → IsFirstScript bytes lines → ⊥)
+    → IfSome left (IsNoScriptRead rest)
+no_script_told None rest bytes same end none = tt
+no_script_told (Some told) rest bytes same end none =
+    inr (end, λ lines is. none lines (rw (← same) at is))

@@ -2,12 +2,13 @@
 use Rattle.std.specs.Prelude.{◌≡◌, ℕ, zero, suc, List, [], ◌∷◌, ◌++◌, take, map, codes, Option, None, Some, refl}
 use Rattle.std.specs.Fmt.{digits}
 use Rattle.std.specs.List.{join_with_byte}
-use Rattle.std.proofs.Common.{◌∙◌, ap, arith, lit<, lit≤}
+use Rattle.std.proofs.Common.{◌∙◌, ap, arith, inl, inr, lit<, lit≤}
 use Rattle.dt_run.specs.Status.{number_of}
 use Rattle.dt_run.specs.declared.status.Status.{Status}
 use Rattle.dt_run.specs.declared.status.Status.TheVariants.{Done, Usage, Script, ReadFault, WriteFault, NoMemory}
 use Rattle.dt_run.specs.Log.{Log}
-use Rattle.dt_run.specs.Run.{run_words, usage_text, script_text, read_text, memory_text, IsRunOf, Told, WereRead, IsDone, IsCutShort, IsHanded}
+use Rattle.dt_run.specs.Run.{run_words, usage_text, script_text, read_text, memory_text, IsRunOf, Told, WereRead, IsDone, IsCutShort}
+use Rattle.dt_run.specs.Ending.{Outside, outside, Ending, EndsAs}
 use Rattle.dt_run.specs.OutcomeExamples.{log_of, override_log}
 use Rattle.dt_run.specs.TextExamples.{smallest_run, override_run}
 
@@ -122,25 +123,41 @@ cut_before_first_byte = (smallest_text, smallest_run, (0, lit≤ tt, refl))
 cut_needs_log : (bytes : List ℕ) (before after : Option (List ℕ)) → IsCutShort bytes before after None → ⊥
 cut_needs_log bytes before after cut = cut
 
--- ---- the log that is handed back
+-- ---- endings
 
-handed_at_done : (log : Log) → IsHanded Done (Some log)
-handed_at_done log = refl
+-- nothing happened to the source and the sink but that these bytes were read and these taken
+abbrev after_all : List ℕ → Outside
+after_all taken = outside (Some []) 0 (Some taken) 0
 
-handed_at_write_fault : (log : Log) → IsHanded WriteFault (Some log)
-handed_at_write_fault log = refl
+done_ends : Ending Done (Some (log_of 0 [] [])) (outside (Some (codes "dispatch 1\nend\n")) 0 (Some []) 0) (after_all smallest_text)
+done_ends = (codes "dispatch 1\nend\n", (refl, refl), (smallest_text, smallest_run, refl))
 
-none_handed_else : IsHanded Usage None × IsHanded Script None × IsHanded ReadFault None × IsHanded NoMemory None
-none_handed_else = (refl, refl, refl, refl)
+done_hands_a_log_back : (old new : Outside) → Ending Done None old new → ⊥
+done_hands_a_log_back old new ends = ends.2
 
-missing_at_done : IsHanded Done None → ⊥
-missing_at_done handed = absurd cc
+cut_short_hands_a_log_back : (old new : Outside) → Ending WriteFault None old new → ⊥
+cut_short_hands_a_log_back old new ends = ends.1.2
 
-missing_at_write_fault : IsHanded WriteFault None → ⊥
-missing_at_write_fault handed = absurd cc
+none_is_handed_back_else : (log : Log) (old new : Outside) → Ending Script (Some log) old new → ⊥
+none_is_handed_back_else log old new ends = let none = ends.1.0 in absurd cc
 
-handed_at_script : (log : Log) → IsHanded Script (Some log) → ⊥
-handed_at_script log handed = absurd cc
+usage_reads_nothing : (log : Option Log) (new : Outside) → Ending Usage log (outside (Some (codes "x")) 0 None 0) new → new.left ≡ Some (codes "x")
+usage_reads_nothing log new ends = ends.0
 
-handed_at_no_memory : (log : Log) → IsHanded NoMemory (Some log) → ⊥
-handed_at_no_memory log handed = absurd cc
+a_read_fault_is_counted : (log : Option Log) → Ending ReadFault log (outside None 3 None 0) (outside None 3 None 0) → ⊥
+a_read_fault_is_counted log ends = omega (arith, ends.0 (lit< tt))
+
+a_write_fault_is_counted : (log : Option Log) → Ending WriteFault log (outside None 0 None 3) (outside None 0 None 3) → ⊥
+a_write_fault_is_counted log ends = omega (arith, ends.0 (lit< tt))
+
+-- no script that is short was read to its end
+a_script_fault_reads_to_the_end : (log : Option Log) (taken : Option (List ℕ))
+    → Ending Script log (outside (Some (codes "x")) 0 taken 0) (outside (Some (codes "x")) 0 taken 0) → ⊥
+a_script_fault_reads_to_the_end log taken ends = elim ends.0 [
+  | inl long ↦ omega (arith, long)
+  | inr read ↦ let none = read.0 in absurd cc
+]
+
+-- nothing was read or put where the words found no memory; else the text of the fault was told
+memory_wanted_at_once : (at : Outside) → EndsAs 6 at at
+memory_wanted_at_once at = (NoMemory, refl, inr (refl, refl))

@@ -22,6 +22,7 @@ pub mod Text
 pub mod Spaced
 pub mod Status
 pub mod Run
+pub mod Ending
 pub mod TextExamples
 pub mod EndingExamples
 pub mod OutsideLaws

@@ -1,5 +1,5 @@
 -- What each ending of a run says of the words, of the source's bytes and of what the sink took.
-use Rattle.std.specs.Prelude.{◌≡◌, ℕ, ◌<◌, List, [], ◌∷◌, length, codes, Option, None, Some, ◌⊎◌, IfSome, IsSome, IsSomeAnd}
+use Rattle.std.specs.Prelude.{◌≡◌, ℕ, ◌<◌, List, [], ◌∷◌, length, codes, Option, Some, ◌⊎◌, IfSome, IsSomeAnd}
 use Rattle.std.specs.Io.KnownBytes.{Appends}
 use Rattle.dt_run.specs.Line.{Line}
 use Rattle.dt_run.specs.FirstScript.{IsFirstScript}
@@ -9,8 +9,6 @@ use Rattle.dt_run.specs.Outcome.{Outcome}
 use Rattle.dt_run.specs.Text.{text_of}
 use Rattle.dt_run.specs.Outside.{Rose}
 use Rattle.dt_run.specs.Putting.{AppendsPrefix}
-use Rattle.dt_run.specs.declared.status.Status.{Status}
-use Rattle.dt_run.specs.declared.status.Status.TheVariants.{Done, WriteFault}
 use Rattle.dt_run.specs.declared.limits.TheConstants.{SCRIPT_BYTES}
 
 -- the words of the one command that there is for now
@@ -59,9 +57,3 @@ IsDone bytes before after handed =
 abbrev pub IsCutShort : List ℕ → Option (List ℕ) → Option (List ℕ) → Option Log → Type 0
 IsCutShort bytes before after handed =
     IsSomeAnd handed (λ log. (text : List ℕ) × IsRunOf bytes log text × AppendsPrefix before after text)
-
--- The log is handed back exactly at done and at a write fault.
-abbrev pub IsHanded : Status → Option Log → Type 0
-IsHanded Done handed = IsSome handed
-IsHanded WriteFault handed = IsSome handed
-IsHanded _ handed = handed ≡ None

@@ -5,7 +5,8 @@ ghost use Rattle.dt_run.specs.Reading.{LosesAtMost};
 ghost use Rattle.dt_run.specs.Putting.{AppendsPrefix};
 ghost use Rattle.dt_run.specs.Line as line;
 ghost use Rattle.dt_run.specs.FirstScript.{IsFirstScript};
-ghost use Rattle.dt_run.specs.Run.{run_words, usage_text, script_text, read_text, memory_text, IsNoScript, IsRunOf, Told, WereRead, IsDone, IsCutShort, IsHanded};
+ghost use Rattle.dt_run.specs.Run.{run_words, IsNoScript, IsRunOf, Told};
+ghost use Rattle.dt_run.specs.Ending.{outside, Ending, Printed};
 ghost use Rattle.dt_run.specs.declared.limits.TheConstants.{SCRIPT_BYTES};
 
 use crate::arg_words::ArgWords;
@@ -71,9 +72,7 @@ fn end_with<K: Sink>(sink: &mut K, status: Status, text: &[u8]) -> Ran
 /// Prints the text of what was performed, and hands back its log.
 fn print<K: Sink>(sink: &mut K, performed: Performed) -> Ran
     ensures log { result.log ≡ Some performed.log }
-    ensures done { result.status ≡ Status.Done → Appends (K.taken sink.old) (K.taken sink.new) performed.text.items }
-    ensures cut_short { AppendsPrefix (K.taken sink.old) (K.taken sink.new) performed.text.items }
-    ensures write_fault { result.status ≢ Status.Done → (result.status ≡ Status.WriteFault) × Rose (K.faults sink.old) (K.faults sink.new) }
+    ensures printed { Printed result.status (K.taken sink.old) (K.taken sink.new) (K.faults sink.old) (K.faults sink.new) performed.text.items }
     ensures counts { K.faults sink.old ≤ K.faults sink.new }
 {
     let Performed { log, text } = performed;
@@ -94,21 +93,10 @@ fn run_source<S: Source, K: Sink, T: Turnstile>(
     sink: &mut K,
     turnstile: &T,
 ) -> Ran
-    ensures done { result.status ≡ Status.Done → (bytes : List ℕ) × WereRead (S.left source.old) (S.left source.new) bytes
-        × IsDone bytes (K.taken sink.old) (K.taken sink.new) result.log }
-    ensures write_fault { result.status ≡ Status.WriteFault → Rose (K.faults sink.old) (K.faults sink.new)
-        × ((bytes : List ℕ) × WereRead (S.left source.old) (S.left source.new) bytes
-        × IsCutShort bytes (K.taken sink.old) (K.taken sink.new) result.log) }
-    ensures script { result.status ≡ Status.Script → IfSome (S.left source.old) IsNoScript
-        × Told (K.taken sink.old) (K.taken sink.new) (K.faults sink.old) (K.faults sink.new) script_text }
-    ensures script_read { result.status ≡ Status.Script → IfSome (S.left source.old) (λ bytes.
-        (SCRIPT_BYTES < length bytes) ⊎ (S.left source.new ≡ Some [])) }
-    ensures read_fault { result.status ≡ Status.ReadFault → Rose (S.faults source.old) (S.faults source.new)
-        × Told (K.taken sink.old) (K.taken sink.new) (K.faults sink.old) (K.faults sink.new) read_text }
-    ensures no_memory { result.status ≡ Status.NoMemory
-        → Told (K.taken sink.old) (K.taken sink.new) (K.faults sink.old) (K.faults sink.new) memory_text }
+    ensures ends { Ending result.status result.log
+        (outside (S.left source.old) (S.faults source.old) (K.taken sink.old) (K.faults sink.old))
+        (outside (S.left source.new) (S.faults source.new) (K.taken sink.new) (K.faults sink.new)) }
     ensures no_usage { result.status ≢ Status.Usage }
-    ensures log { IsHanded result.status result.log }
     ensures lost { LosesAtMost (SCRIPT_BYTES + 1) (S.left source.old) (S.left source.new) }
     ensures source_counts { S.faults source.old ≤ S.faults source.new }
     ensures sink_counts { K.faults sink.old ≤ K.faults sink.new }
@@ -144,28 +132,15 @@ pub fn run<H: Threads + Sync, S: Source, K: Sink, T: Turnstile>(
     sink: &mut K,
     turnstile: &T,
 ) -> Ran
-    // The headline, for first scripts.
-    ensures done { result.status ≡ Status.Done → (bytes : List ℕ) × WereRead (S.left source.old) (S.left source.new) bytes
-        × IsDone bytes (K.taken sink.old) (K.taken sink.new) result.log }
+    // How it ends, status by status. At done it is the headline, for first scripts.
+    ensures ends { Ending result.status result.log
+        (outside (S.left source.old) (S.faults source.old) (K.taken sink.old) (K.faults sink.old))
+        (outside (S.left source.new) (S.faults source.new) (K.taken sink.new) (K.faults sink.new)) }
 
-    // The other endings: when each comes, and what the sink took.
+    // The words decide whether there is a command.
     ensures usage { (result.status ≡ Status.Usage) ↔ (words.now ≢ run_words) }
     ensures command { result.status ≢ Status.Usage → words.now ≡ run_words }
     ensures usage_unread { result.status ≡ Status.Usage → source.new ≡ source.old }
-    ensures usage_told { result.status ≡ Status.Usage
-        → Told (K.taken sink.old) (K.taken sink.new) (K.faults sink.old) (K.faults sink.new) usage_text }
-    ensures script { result.status ≡ Status.Script → IfSome (S.left source.old) IsNoScript
-        × Told (K.taken sink.old) (K.taken sink.new) (K.faults sink.old) (K.faults sink.new) script_text }
-    ensures script_read { result.status ≡ Status.Script → IfSome (S.left source.old) (λ bytes.
-        (SCRIPT_BYTES < length bytes) ⊎ (S.left source.new ≡ Some [])) }
-    ensures read_fault { result.status ≡ Status.ReadFault → Rose (S.faults source.old) (S.faults source.new)
-        × Told (K.taken sink.old) (K.taken sink.new) (K.faults sink.old) (K.faults sink.new) read_text }
-    ensures write_fault { result.status ≡ Status.WriteFault → Rose (K.faults sink.old) (K.faults sink.new)
-        × ((bytes : List ℕ) × WereRead (S.left source.old) (S.left source.new) bytes
-        × IsCutShort bytes (K.taken sink.old) (K.taken sink.new) result.log) }
-    ensures no_memory { result.status ≡ Status.NoMemory
-        → Told (K.taken sink.old) (K.taken sink.new) (K.faults sink.old) (K.faults sink.new) memory_text }
-    ensures log { IsHanded result.status result.log }
 
     // A script that isn't one is always found, and a first script is always performed, unless the outside fails or
     // memory is wanted.

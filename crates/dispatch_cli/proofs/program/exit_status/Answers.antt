@@ -1,8 +1,23 @@
-use Rattle.std.proofs.Common.{◌≡◌, ◌∙◌, ap, inr}
+use Rattle.std.proofs.Common.{◌≡◌, ◌∙◌, ap, inl, inr, refl}
 use Rattle.dt_run.specs.Status.{number_of}
+use Rattle.dt_run.specs.declared.status.Status.TheVariants.{NoMemory}
 use Rattle.dispatch_cli.proofs.Words.{words_decide, where_words, whatever_words, whatever_bytes, numbers_end}
 use Rattle.dispatch_cli.proofs.program.exit_status.Goals.{in-Ok, in-Err}
 use Rattle.dispatch_cli.proofs.program.exit_status.Goals as goal
+
+pub returns-clause-ends : goal.returns-clause-ends
+returns-clause-ends g c = elim c.match-words_of.branch [
+  | in-Ok w ↦ (
+    w.run.result.status,
+    c.number.ensures ∙ ap number_of w.status-is,
+    inl (w.run.result.log, rw w.source-is (rw w.sink-is w.run.ensures.ends)),
+  )
+  | in-Err w ↦ (
+    NoMemory,
+    c.number.ensures ∙ ap number_of w.status-is,
+    inr (refl, rw w.source-is (rw w.sink-is refl)),
+  )
+]
 
 pub returns-clause-words : goal.returns-clause-words
 returns-clause-words g c = λ not_six. elim c.match-words_of.branch [

@@ -1,19 +1,23 @@
-use Rattle.std.proofs.Common.{◌≢◌}
-use Rattle.dt_run.specs.declared.status.Status.TheVariants.{Done}
-use Rattle.dt_run.proofs.Endings.{done_of, cut_short_of}
+use Rattle.std.proofs.Common.{ap, Err}
+use Rattle.dt_run.proofs.Endings.{ends_printed, no_script_told}
 use Rattle.dt_run.proofs.run_script.run_source.Goals as goal
 
-pub returns-in-Ok-perform_bytes-clause-done : goal.returns-in-Ok-perform_bytes-clause-done
-returns-in-Ok-perform_bytes-clause-done g c = λ done.
-    done_of _ _ _ _ _ _ _ _ c.in-Ok.ensures.whole c.in-Ok.ensures.end c.print.ensures.log
+pub returns-in-Ok-perform_bytes-clause-ends : goal.returns-in-Ok-perform_bytes-clause-ends
+returns-in-Ok-perform_bytes-clause-ends g c =
+    ends_printed _ _ _ _ _ _ _ c.in-Ok.ensures.whole c.in-Ok.ensures.end c.print.ensures.log
     (rw c.deref.ensures.value at c.in-Ok-perform_bytes.ensures.ok)
-    (c.print.ensures.done done)
+    c.print.ensures.printed
 
-pub returns-in-Ok-perform_bytes-clause-write_fault : goal.returns-in-Ok-perform_bytes-clause-write_fault
-returns-in-Ok-perform_bytes-clause-write_fault g c = λ fault.
-    let not_done : c.print.result.status ≢ Done = λ done. cc in (
-      (c.print.ensures.write_fault not_done).1,
-      cut_short_of _ _ _ _ _ _ _ _ c.in-Ok.ensures.whole c.in-Ok.ensures.end c.print.ensures.log
-          (rw c.deref.ensures.value at c.in-Ok-perform_bytes.ensures.ok)
-          c.print.ensures.cut_short,
+pub returns-in-Err-Malformed-clause-ends : goal.returns-in-Err-Malformed-clause-ends
+returns-in-Err-Malformed-clause-ends g c =
+    let e = c.end_with-in-Err-Malformed.ensures in
+    rw e.status (
+      no_script_told _ _ _ c.in-Ok.ensures.whole c.in-Ok.ensures.end
+          (rw c.deref.ensures.value at c.in-Err-Malformed.ensures.fault (ap (λ f. Err f) c.in-Err-Malformed.field-0-is)),
+      (e.log, e.told),
     )
+
+pub returns-clause-ends : goal.returns-clause-ends
+returns-clause-ends g c =
+    let e = c.end_with-in-Err-NoMemory-perform_bytes.ensures in
+    rw e.status (e.log, e.told)
