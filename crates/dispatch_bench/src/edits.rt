@@ -213,16 +213,19 @@ pub fn new_classes(
     keep_accepted(alloc, program, edits)
 }
 
-/// A batch of definitions that are there already, and of an edit that is refused: class 0 is live.
-pub fn refused_batch(
+/// A batch of so many definitions that are drawn, each by the body that it adds to.
+fn drawn_batch(
     alloc: Global,
     draws: &mut Draws,
     size: Size,
     batches: &[Batch],
+    count: u16,
+    added: u16,
 ) -> Result<Batch, NoMemory> {
     let mut batch = Batch::new(alloc);
-    for _ in 1..BATCH {
+    for _ in 0..count {
         if let Some((selector, classes, body)) = draw_defined(draws, size, batches) {
+            let body = BodyNo::new(body.number().wrapping_add(added));
             put(
                 &mut batch,
                 Edit::Define {
@@ -233,6 +236,27 @@ pub fn refused_batch(
             )?;
         }
     }
+    Ok(batch)
+}
+
+/// A batch of definitions that are there already, each by another body.
+pub fn redefining_batch(
+    alloc: Global,
+    draws: &mut Draws,
+    size: Size,
+    batches: &[Batch],
+) -> Result<Batch, NoMemory> {
+    drawn_batch(alloc, draws, size, batches, BATCH, definition_count(size))
+}
+
+/// A batch of definitions that are there already, and of an edit that is refused: class 0 is live.
+pub fn refused_batch(
+    alloc: Global,
+    draws: &mut Draws,
+    size: Size,
+    batches: &[Batch],
+) -> Result<Batch, NoMemory> {
+    let mut batch = drawn_batch(alloc, draws, size, batches, BATCH - 1, 0)?;
     let class = ClassNo::default();
     let parents = Parents::new(alloc, &[])?;
     put(&mut batch, Edit::AddClass { class, parents })?;

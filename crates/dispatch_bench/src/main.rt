@@ -2,7 +2,7 @@
 //!
 //! With no words it prints what a tiny program comes to, and times nothing. `bench N C S` times the generated program of
 //! the number N with C classes and S selectors, and `graph SHAPE C` a graph of C classes that is a `chain`, a `star` or
-//! `diamonds`. Each line of figures is `NAME SIZE | METRIC | UNIT | MEDIAN | LEAST | GREATEST`, over 21 rounds.
+//! `diamonds`; `selector D` times a selector of two arguments with D definitions, at most 3,600. Each line of figures is `NAME SIZE | METRIC | UNIT | MEDIAN | LEAST | GREATEST`, over 21 rounds.
 #![tactic(auto)]
 
 mod draws;
@@ -15,17 +15,20 @@ mod metric;
 mod mix;
 mod program_rounds;
 mod queries;
+mod selector_rounds;
 mod shape;
 mod size;
 mod stopwatch;
 mod table;
 mod tiny;
+mod trial_rounds;
 mod words;
 mod work;
 
 use fault::Fault;
 use graph_rounds::{GraphPlan, time_graph};
 use program_rounds::time_program;
+use selector_rounds::time_selector;
 use size::Size;
 use std::alloc::Global;
 use std::env;
@@ -91,6 +94,14 @@ fn print_graph<R: Print + Clock + AllocGlobal>(rt: &R, plan: GraphPlan) -> Resul
     Ok(())
 }
 
+/// Prints the figures of a selector with so many definitions.
+fn print_selector<R: Print + Clock + AllocGlobal>(rt: &R, definitions: u16) -> Result<(), Fault> {
+    let mut table = time_selector(rt, definitions)?;
+    let name = format!(in rt.alloc(); "selector {definitions}")?;
+    table.print(rt, name.as_str())?;
+    Ok(())
+}
+
 /// Does what the words ask for, and answers whether they ask for anything.
 fn run<R: Print + Clock + Files + Env + AllocGlobal>(rt: &R) -> Result<bool, Fault> {
     let words = given_words(rt)?;
@@ -98,9 +109,10 @@ fn run<R: Print + Clock + Files + Env + AllocGlobal>(rt: &R) -> Result<bool, Fau
         Some(Command::Count) => print_counts(rt)?,
         Some(Command::Program { number, size }) => print_program(rt, number, size)?,
         Some(Command::Graph { plan }) => print_graph(rt, plan)?,
+        Some(Command::Selector { definitions }) => print_selector(rt, definitions)?,
         None => {
             println!(rt;
-                "usage: dispatch_bench\n       dispatch_bench bench N C S\n       dispatch_bench graph chain|star|diamonds C"
+                "usage: dispatch_bench\n       dispatch_bench bench N C S\n       dispatch_bench graph chain|star|diamonds C\n       dispatch_bench selector D"
             )?;
             return Ok(false);
         }

@@ -8,6 +8,7 @@ use crate::queries::{calls_of_one, hits_of_two, random_pairs};
 use crate::size::Size;
 use crate::stopwatch::Stopwatch;
 use crate::table::Table;
+use crate::trial_rounds::time_trials;
 use crate::work::{apply_all, count_below, load, resolve_all};
 use dt_definitions::{Batch, BatchFault, ClassGraph, ClassNo, Edit, NoMemory, Program};
 use dt_scratch::Query;
@@ -157,6 +158,20 @@ fn time_load<R: Clock + AllocGlobal>(
     Ok(())
 }
 
+/// Times a copy of the program.
+fn time_copy(
+    rt: &impl Clock,
+    table: &mut Table,
+    program: &Program,
+    mix: &mut Mix,
+) -> Result<(), Fault> {
+    let watch = Stopwatch::start(rt)?;
+    let copy = program.copy()?;
+    watch.stop(rt, table, Metric::Copy, 1)?;
+    mix.add(copy.definitions());
+    Ok(())
+}
+
 /// Times a batch that is refused, which leaves the program as it is.
 fn time_refused(
     rt: &impl Clock,
@@ -288,7 +303,26 @@ fn time_round<R: Clock + AllocGlobal>(
     time_lookups(rt, table, program, work, &mut mix)?;
     time_changes(rt, table, program, work, &mut mix)?;
     time_load(rt, table, batches, &mut mix)?;
+    time_copy(rt, table, program, &mut mix)?;
     table.put(Metric::Mix, u64::from(mix.number()))?;
+    Ok(())
+}
+
+/// Times the rounds of a program, with its memory after the first load.
+fn time_rounds<R: Clock + Files + AllocGlobal>(
+    rt: &R,
+    table: &mut Table,
+    draws: &mut Draws,
+    size: Size,
+    batches: &[Batch],
+) -> Result<(), Fault> {
+    let mut program = load(rt.alloc(), batches)?;
+    let memory = memory(rt)?;
+    let work = Workload::draw(rt.alloc(), draws, size, batches, &mut program)?;
+    for _ in 0..ROUNDS {
+        time_round(rt, table, &mut program, batches, &work)?;
+    }
+    table.put(Metric::Memory, memory)?;
     Ok(())
 }
 
@@ -298,16 +332,10 @@ pub fn time_program<R: Clock + Files + AllocGlobal>(
     number: u64,
     size: Size,
 ) -> Result<Table, Fault> {
-    let alloc = rt.alloc();
     let mut draws = Draws::new(number);
-    let batches = draw_program(alloc, &mut draws, size)?;
-    let mut program = load(alloc, &batches)?;
-    let memory = memory(rt)?;
-    let work = Workload::draw(alloc, &mut draws, size, &batches, &mut program)?;
-    let mut table = Table::new(alloc);
-    for _ in 0..ROUNDS {
-        time_round(rt, &mut table, &mut program, &batches, &work)?;
-    }
-    table.put(Metric::Memory, memory)?;
+    let batches = draw_program(rt.alloc(), &mut draws, size)?;
+    let mut table = Table::new(rt.alloc());
+    time_rounds(rt, &mut table, &mut draws, size, &batches)?;
+    time_trials(rt, &mut table, &mut draws, number, size, &batches)?;
     Ok(table)
 }
