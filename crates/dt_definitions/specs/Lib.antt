@@ -11,6 +11,7 @@ pub mod Parts
 pub mod Place
 pub mod Program
 pub mod RefusalExamples
+pub mod Refusals
 pub mod SecondProgram
 pub mod Step
 pub mod TupleForm
