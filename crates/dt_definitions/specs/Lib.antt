@@ -12,6 +12,7 @@ pub mod Place
 pub mod Program
 pub mod RefusalExamples
 pub mod Refusals
+pub mod Search
 pub mod SecondProgram
 pub mod Step
 pub mod TupleForm
