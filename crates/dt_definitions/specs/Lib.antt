@@ -11,6 +11,8 @@ pub mod Parts
 pub mod Place
 pub mod Program
 pub mod RefusalExamples
+pub mod Refusals
+pub mod Search
 pub mod SecondProgram
 pub mod Step
 pub mod TupleForm

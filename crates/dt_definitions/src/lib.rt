@@ -14,7 +14,9 @@ mod limits;
 mod parents;
 mod parts;
 mod program;
+mod refusal;
 mod row;
+mod sharing;
 mod tuple;
 mod two_programs;
 mod undo;
@@ -26,8 +28,10 @@ pub use answer_law::{
 };
 pub use batch::Batch;
 pub use defined::Defined;
-pub use dt_graph::{CLASSES, ClassGraph, ClassNo, NoMemory, PARENTS};
-pub use dt_selectors::{Arity, BODIES, BodyNo, SELECTORS, SelNo};
+pub use dt_graph::{CLASSES, ClassGraph, ClassNo, GraphFault, NoMemory, PARENTS};
+pub use dt_selectors::{
+    Arity, BODIES, BodyNo, NAMES, NameFault, Names, SELECTORS, SelNo, SelectorFault,
+};
 pub use edit::Edit;
 pub use law::{
     batches_are_their_edits, definitions_stand_alone, histories_are_lawful, steps_keep_law,
