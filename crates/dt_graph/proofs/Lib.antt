@@ -24,3 +24,4 @@ pub mod ListsOfGraphs
 pub mod Needed
 pub mod ListMembers
 pub mod BelowSets
+pub mod PlacedMembers
