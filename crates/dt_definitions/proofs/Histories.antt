@@ -9,7 +9,7 @@ use Rattle.dt_definitions.specs.declared.edit.Edit.{Edit}
 use Rattle.dt_definitions.proofs.BatchLaws.{batch_is_its_edits}
 
 module _ (law : (old : Program) (edit : Edit) (new : Program) → Lawful old → IsInRange edit → step old edit ≡ Ok new → Lawful new) where
-  lawful-along : (p q : Program) (edits : List Edit) → LeadsTo p edits q → Lawful p → AreInRange edits → Lawful q
+  pub lawful-along : (p q : Program) (edits : List Edit) → LeadsTo p edits q → Lawful p → AreInRange edits → Lawful q
   lawful-along p q [] h l r = subst Lawful h l
   lawful-along p q (edit ∷ edits) h l r = lawful-along h.0 q edits h.2 (law p edit h.0 l r.0 h.1) r.1
 

@@ -20,3 +20,4 @@ pub mod DefinitionLaws
 pub mod Histories
 pub mod LawfulExamples
 pub mod AnswerExamples
+pub mod Differing

@@ -10,6 +10,7 @@ mod definition_table;
 mod edit;
 mod kept;
 mod law;
+mod laws;
 mod limits;
 mod parents;
 mod parts;
@@ -36,6 +37,7 @@ pub use edit::Edit;
 pub use law::{
     batches_are_their_edits, definitions_stand_alone, histories_are_lawful, steps_keep_law,
 };
+pub use laws::{batches_differ_where_they_say, histories_go_on_by_one, keys_are_defined_once};
 pub use limits::DEFINITIONS;
 pub use parents::Parents;
 pub use program::Program;

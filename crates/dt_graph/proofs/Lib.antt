@@ -22,3 +22,6 @@ pub mod AncestryRows
 pub mod Effects
 pub mod ListsOfGraphs
 pub mod Needed
+pub mod ListMembers
+pub mod BelowSets
+pub mod PlacedMembers

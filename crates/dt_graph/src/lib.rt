@@ -11,6 +11,7 @@ mod class_rows;
 mod class_set;
 mod graph_fault;
 mod law;
+mod laws;
 mod limits;
 mod listed;
 mod no_memory;
@@ -26,6 +27,7 @@ pub use law::{
     changes_are_undone, changes_keep_law, refusals_are_needed, what_changes_leave,
     what_restoring_leaves,
 };
+pub use laws::{law_of_below, others_stay_below};
 pub use limits::{CLASSES, PARENTS};
 pub use listed::lists_agree;
 pub use no_memory::NoMemory;

@@ -2,12 +2,14 @@
 #![tactic(auto)]
 
 mod law;
+mod laws;
 mod limits;
 mod names;
 mod numbers;
 mod selectors;
 
 pub use law::{changes_keep_law, changes_touch_one_selector, names_keep_their_numbers};
+pub use laws::lists_of_names_keep_numbers;
 pub use limits::{BODIES, NAMES, SELECTORS};
 pub use names::{NameFault, Names};
 pub use numbers::{Arity, BodyNo, SelNo};
