@@ -1,5 +1,5 @@
 -- Ascending numbers and links stay so where one is placed and where some are left out.
-use Rattle.std.proofs.Common.{◌≡◌, ◌==◌, ℕ, Bool, IsTrue, List, ◌∷◌, filter, refl, sym, ap, ltb-true, lt-ltb, eqb-true, eq-eqb, nat_lt, arith, All}
+use Rattle.std.proofs.Common.{◌≡◌, ◌==◌, ℕ, Bool, IsTrue, List, ◌∷◌, filter, refl, ltb-true, lt-ltb, eqb-true, eq-eqb, nat_lt, arith, All}
 use Rattle.std.proofs.lemmas.Bool.{and_parts}
 use Rattle.std.proofs.lemmas.Bool.Decides.{nat_tests}
 use Rattle.dt_graph.specs.InOrder.{StrictOrder}

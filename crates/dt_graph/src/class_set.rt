@@ -1,4 +1,4 @@
-ghost use Rattle.std.specs.Prelude.{◌≡◌, ◌==◌, ℕ, ◌<◌, ◌≤◌, ◌&&◌, ◌||◌, not, [], ◌++◌, length, All, OnOk, OnErr};
+ghost use Rattle.std.specs.Prelude.{◌≡◌, ◌==◌, ℕ, ◌<◌, ◌≤◌, ◌&&◌, ◌||◌, not, [], ◌++◌, length, IsTrue, All, OnOk, OnErr};
 ghost use Rattle.dt_graph.specs.Graph.{has_number, place_number};
 ghost use Rattle.dt_graph.specs.Lawful.{AscendingNumbers};
 ghost use Rattle.dt_graph.specs.ClassSet.{first_from};
@@ -65,6 +65,13 @@ impl ClassSet {
         (self.words[number / BITS] >> (number % BITS)) & 1 == 1
     }
 
+    /// Whether it is the other set; where it isn't, nothing is said.
+    pub(crate) fn is_same(&self, other: &ClassSet) -> bool
+        ensures { IsTrue result → self.now ≡ other.now }
+    {
+        self.words == other.words
+    }
+
     /// How many classes are in the set.
     pub(crate) fn len(&self) -> usize
         ensures value { result ≡ length self.now }
@@ -123,15 +130,22 @@ impl ClassSet {
         }
     }
 
+    /// The classes of the other set aren't in the set from now on.
+    pub(crate) fn remove_all(&mut self, other: &ClassSet)
+        ensures { (n : ℕ) → has_number self.new n ≡ (has_number self.old n && not (has_number other.now n)) }
+    {
+        for i in 0..WORDS {
+            self.words[i] &= !other.words[i];
+        }
+    }
+
     /// The classes that aren't in the other set.
     pub(crate) fn without(&self, other: &ClassSet) -> ClassSet
         ensures { (n : ℕ) → has_number result n ≡ (has_number self.now n && not (has_number other.now n)) }
     {
-        let mut words = self.words;
-        for i in 0..WORDS {
-            words[i] &= !other.words[i];
-        }
-        ClassSet { words }
+        let mut rest = self.copy();
+        rest.remove_all(other);
+        rest
     }
 
     /// Appends the classes, in ascending order. Where memory is wanting, `out` is as it was.
