@@ -1,12 +1,12 @@
 ghost use Rattle.std.specs.Prelude.{◌≡◌, ◌≢◌, ◌<◌, ◌↔◌, ◌⊎◌, ℕ, List, Option, IfOk, IfSome, MatchResult, map, drop, string_bytes};
 ghost use Rattle.std.specs.Vec.Iter.{into_iter_items};
-ghost use Rattle.dt_run.specs.Outside.{Rose};
-ghost use Rattle.dt_run.specs.Putting.{AppendsPrefix};
+ghost use Rattle.dt_outside.specs.Faults.{Rose};
+ghost use Rattle.dt_outside.specs.Putting.{AppendsPrefix, Told};
 ghost use Rattle.dt_run.specs.Line as line;
 ghost use Rattle.dt_run.specs.Log as log;
 ghost use Rattle.dt_run.specs.FirstScript.{IsFirstScript};
 ghost use Rattle.dt_run.specs.Status.{number_of};
-ghost use Rattle.dt_run.specs.Run.{run_words, usage_text, script_text, read_text, memory_text, IsNoScript, Told, WereRead, IsDone, IsCutShort};
+ghost use Rattle.dt_run.specs.Run.{run_words, usage_text, script_text, read_text, memory_text, IsNoScript, WereRead, IsDone, IsCutShort};
 
 use crate::command_line::words_of;
 use dt_graph::NoMemory;

@@ -5,7 +5,7 @@ use Rattle.std.specs.Io.KnownBytes.{Appends}
 use Rattle.dt_run.specs.Line.{Line}
 use Rattle.dt_run.specs.FirstScript.{IsFirstScript}
 use Rattle.dt_run.specs.Log.{Log}
-use Rattle.dt_run.specs.Putting.{AppendsPrefix}
+use Rattle.dt_outside.specs.Putting.{AppendsPrefix}
 use Rattle.dt_run.specs.Run.{IsNoScript, IsRunOf, WereRead, IsDone, IsCutShort}
 use Rattle.dt_run.specs.declared.status.Status.{Status}
 use Rattle.dt_run.specs.declared.status.Status.TheVariants.{Done, Usage, Script, ReadFault, WriteFault, NoMemory}

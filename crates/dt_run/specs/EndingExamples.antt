@@ -2,12 +2,13 @@
 use Rattle.std.specs.Prelude.{◌≡◌, ℕ, zero, suc, List, [], ◌∷◌, ◌++◌, take, map, codes, Option, None, Some, refl}
 use Rattle.std.specs.Fmt.{digits}
 use Rattle.std.specs.List.{join_with_byte}
-use Rattle.std.proofs.Common.{◌∙◌, ap, arith, lit<, lit≤}
+use Rattle.std.proofs.Common.{◌∙◌, ap, inr, arith, lit<, lit≤}
 use Rattle.dt_run.specs.Status.{number_of}
 use Rattle.dt_run.specs.declared.status.Status.{Status}
 use Rattle.dt_run.specs.declared.status.Status.TheVariants.{Done, Usage, Script, ReadFault, WriteFault, NoMemory}
 use Rattle.dt_run.specs.Log.{Log}
-use Rattle.dt_run.specs.Run.{run_words, usage_text, script_text, read_text, memory_text, IsRunOf, Told, WereRead, IsDone, IsCutShort, IsHanded}
+use Rattle.dt_run.specs.Run.{run_words, usage_text, script_text, read_text, memory_text, IsRunOf, WereRead, IsDone, IsCutShort, IsHanded, IsSourceCounted, IsSinkCounted}
+use Rattle.dt_outside.specs.Putting.{Told}
 use Rattle.dt_run.specs.OutcomeExamples.{log_of, override_log}
 use Rattle.dt_run.specs.TextExamples.{smallest_run, override_run}
 
@@ -83,6 +84,26 @@ not_its_front (suc count) taken = let wrong : ◌≡◌ {A = ℕ} 115 102 = ap f
 
 no_other_fault : Told (Some []) (Some (codes "s")) 0 1 read_text → ⊥
 no_other_fault told = not_its_front told.prefix.0 told.prefix.2
+
+-- ---- the counts at an ending
+
+read_fault_counts : IsSourceCounted ReadFault 0 1
+read_fault_counts = refl
+
+no_read_fault_counts_none : IsSourceCounted Script 1 1
+no_read_fault_counts_none = refl
+
+no_fault_before_done : IsSourceCounted Done 0 1 → ⊥
+no_fault_before_done counted = omega (arith, counted)
+
+no_second_read_fault : IsSourceCounted ReadFault 0 2 → ⊥
+no_second_read_fault counted = let wrong : ◌≡◌ {A = ℕ} 2 1 = counted in omega (arith, wrong)
+
+no_put_failed_at_done : IsSinkCounted Done 0 1 → ⊥
+no_put_failed_at_done counted = omega (arith, counted)
+
+a_put_of_the_fault_failed : IsSinkCounted Script 0 1
+a_put_of_the_fault_failed = inr refl
 
 -- ---- done, and cut short
 

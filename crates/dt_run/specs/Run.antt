@@ -7,10 +7,10 @@ use Rattle.dt_run.specs.Script.{script_of, names_of}
 use Rattle.dt_run.specs.Log.{Log}
 use Rattle.dt_run.specs.Outcome.{Outcome}
 use Rattle.dt_run.specs.Text.{text_of}
-use Rattle.dt_run.specs.Outside.{Rose}
-use Rattle.dt_run.specs.Putting.{AppendsPrefix}
+use Rattle.dt_outside.specs.Faults.{one_fault_more}
+use Rattle.dt_outside.specs.Putting.{AppendsPrefix}
 use Rattle.dt_run.specs.declared.status.Status.{Status}
-use Rattle.dt_run.specs.declared.status.Status.TheVariants.{Done, WriteFault}
+use Rattle.dt_run.specs.declared.status.Status.TheVariants.{Done, ReadFault, WriteFault}
 use Rattle.dt_run.specs.declared.limits.TheConstants.{SCRIPT_BYTES}
 
 -- the words of the one command that there is for now
@@ -41,11 +41,6 @@ pub record IsRunOf (bytes : List ℕ) (log : Log) (text : List ℕ) : Type 0 whe
   pub outcome : Outcome (script_of lines) log
   pub printed : text ≡ text_of (names_of lines) log
 
--- A fault's text was told: the sink took a prefix of it, and all of it where its count of faults didn't rise.
-pub record Told (before after : Option (List ℕ)) (faults_before faults_after : ℕ) (text : List ℕ) : Type 0 where
-  pub prefix : AppendsPrefix before after text
-  pub whole : (Rose faults_before faults_after → ⊥) → Appends before after text
-
 -- These bytes were read: where the source tells its bytes, they are all that it had left, and none is left now.
 abbrev pub WereRead : Option (List ℕ) → Option (List ℕ) → List ℕ → Type 0
 WereRead left rest bytes = IfSome left (λ told. (bytes ≡ told) × (rest ≡ Some []))
@@ -65,3 +60,14 @@ abbrev pub IsHanded : Status → Option Log → Type 0
 IsHanded Done handed = IsSome handed
 IsHanded WriteFault handed = IsSome handed
 IsHanded _ handed = handed ≡ None
+
+-- The source's count of faults is one more at a read fault, and else it stands as it was.
+abbrev pub IsSourceCounted : Status → ℕ → ℕ → Type 0
+IsSourceCounted ReadFault old new = new ≡ one_fault_more old
+IsSourceCounted _ old new = new ≡ old
+
+-- The sink's count is as it was at done and one more at a write fault; after a fault's text it is one of the two.
+abbrev pub IsSinkCounted : Status → ℕ → ℕ → Type 0
+IsSinkCounted Done old new = new ≡ old
+IsSinkCounted WriteFault old new = new ≡ one_fault_more old
+IsSinkCounted _ old new = (new ≡ old) ⊎ (new ≡ one_fault_more old)

@@ -1,24 +1,23 @@
 ghost use Rattle.std.specs.Prelude.{◌≡◌, ◌≢◌, ℕ, ◌+◌, ◌<◌, ◌≤◌, ◌↔◌, ◌⊎◌, List, Option, None, Some, [], length, IsTrue, IfOk, IfSome, IsErrOf, IsSome};
 ghost use Rattle.std.specs.Io.KnownBytes.{Appends};
-ghost use Rattle.dt_run.specs.Outside.{Rose};
-ghost use Rattle.dt_run.specs.Reading.{LosesAtMost};
-ghost use Rattle.dt_run.specs.Putting.{AppendsPrefix};
+ghost use Rattle.dt_outside.specs.Faults.{Rose, one_fault_more};
+ghost use Rattle.dt_outside.specs.Losing.{Loses, LosesAtMost};
+ghost use Rattle.dt_outside.specs.Putting.{AppendsPrefix, Told};
 ghost use Rattle.dt_run.specs.Line as line;
 ghost use Rattle.dt_run.specs.FirstScript.{IsFirstScript};
-ghost use Rattle.dt_run.specs.Run.{run_words, usage_text, script_text, read_text, memory_text, IsNoScript, IsRunOf, Told, WereRead, IsDone, IsCutShort, IsHanded};
+ghost use Rattle.dt_run.specs.Run.{run_words, usage_text, script_text, read_text, memory_text, IsNoScript, IsRunOf, WereRead, IsDone, IsCutShort, IsHanded, IsSourceCounted, IsSinkCounted};
 ghost use Rattle.dt_run.specs.declared.limits.TheConstants.{SCRIPT_BYTES};
 
 use crate::arg_words::ArgWords;
 use crate::command::is_command;
 use crate::first_script::{ScriptFault, read_first_script};
+use crate::limits::SCRIPT_BYTES;
 use crate::log::Log;
-use crate::outside::{Failed, Sink, Source};
 use crate::perform::perform;
-use crate::putting::put_all;
-use crate::reading::{ReadFault, read_to_end};
 use crate::status::Status;
 use crate::text::make_text;
 use crate::turnstile::Turnstile;
+use dt_outside::{Failed, ReadFault, Sink, Source, put_all, read_to_end};
 use std::alloc::Global;
 use std::thread::Threads;
 
@@ -62,6 +61,7 @@ fn end_with<K: Sink>(sink: &mut K, status: Status, text: &[u8]) -> Ran
     ensures status { result.status ≡ status }
     ensures log { result.log ≡ None }
     ensures told { Told (K.taken sink.old) (K.taken sink.new) (K.faults sink.old) (K.faults sink.new) text.now }
+    ensures counted { (K.faults sink.new ≡ K.faults sink.old) ⊎ (K.faults sink.new ≡ one_fault_more (K.faults sink.old)) }
     ensures counts { K.faults sink.old ≤ K.faults sink.new }
 {
     let _ = put_all(sink, text);
@@ -74,6 +74,7 @@ fn print<K: Sink>(sink: &mut K, performed: Performed) -> Ran
     ensures done { result.status ≡ Status.Done → Appends (K.taken sink.old) (K.taken sink.new) performed.text.items }
     ensures cut_short { AppendsPrefix (K.taken sink.old) (K.taken sink.new) performed.text.items }
     ensures write_fault { result.status ≢ Status.Done → (result.status ≡ Status.WriteFault) × Rose (K.faults sink.old) (K.faults sink.new) }
+    ensures counted { IsSinkCounted result.status (K.faults sink.old) (K.faults sink.new) }
     ensures counts { K.faults sink.old ≤ K.faults sink.new }
 {
     let Performed { log, text } = performed;
@@ -102,7 +103,7 @@ fn run_source<S: Source, K: Sink, T: Turnstile>(
     ensures script { result.status ≡ Status.Script → IfSome (S.left source.old) IsNoScript
         × Told (K.taken sink.old) (K.taken sink.new) (K.faults sink.old) (K.faults sink.new) script_text }
     ensures script_read { result.status ≡ Status.Script → IfSome (S.left source.old) (λ bytes.
-        (SCRIPT_BYTES < length bytes) ⊎ (S.left source.new ≡ Some [])) }
+        Loses (SCRIPT_BYTES + 1) (Some bytes) (S.left source.new) ⊎ (S.left source.new ≡ Some [])) }
     ensures read_fault { result.status ≡ Status.ReadFault → Rose (S.faults source.old) (S.faults source.new)
         × Told (K.taken sink.old) (K.taken sink.new) (K.faults sink.old) (K.faults sink.new) read_text }
     ensures no_memory { result.status ≡ Status.NoMemory
@@ -110,10 +111,12 @@ fn run_source<S: Source, K: Sink, T: Turnstile>(
     ensures no_usage { result.status ≢ Status.Usage }
     ensures log { IsHanded result.status result.log }
     ensures lost { LosesAtMost (SCRIPT_BYTES + 1) (S.left source.old) (S.left source.new) }
+    ensures source_counted { IsSourceCounted result.status (S.faults source.old) (S.faults source.new) }
+    ensures sink_counted { IsSinkCounted result.status (K.faults sink.old) (K.faults sink.new) }
     ensures source_counts { S.faults source.old ≤ S.faults source.new }
     ensures sink_counts { K.faults sink.old ≤ K.faults sink.new }
 {
-    let bytes = match read_to_end(alloc, source) {
+    let bytes = match read_to_end(alloc, source, SCRIPT_BYTES) {
         Ok(bytes) => bytes,
         Err(ReadFault::Read) => return end_with(sink, Status::ReadFault, b"fault read\n"),
         Err(ReadFault::TooLong) => return end_with(sink, Status::Script, b"fault script\n"),
@@ -157,7 +160,7 @@ pub fn run<H: Threads + Sync, S: Source, K: Sink, T: Turnstile>(
     ensures script { result.status ≡ Status.Script → IfSome (S.left source.old) IsNoScript
         × Told (K.taken sink.old) (K.taken sink.new) (K.faults sink.old) (K.faults sink.new) script_text }
     ensures script_read { result.status ≡ Status.Script → IfSome (S.left source.old) (λ bytes.
-        (SCRIPT_BYTES < length bytes) ⊎ (S.left source.new ≡ Some [])) }
+        Loses (SCRIPT_BYTES + 1) (Some bytes) (S.left source.new) ⊎ (S.left source.new ≡ Some [])) }
     ensures read_fault { result.status ≡ Status.ReadFault → Rose (S.faults source.old) (S.faults source.new)
         × Told (K.taken sink.old) (K.taken sink.new) (K.faults sink.old) (K.faults sink.new) read_text }
     ensures write_fault { result.status ≡ Status.WriteFault → Rose (K.faults sink.old) (K.faults sink.new)
@@ -179,6 +182,8 @@ pub fn run<H: Threads + Sync, S: Source, K: Sink, T: Turnstile>(
 
     // What is read, and the counts.
     ensures reads_at_most { LosesAtMost (SCRIPT_BYTES + 1) (S.left source.old) (S.left source.new) }
+    ensures source_counted { IsSourceCounted result.status (S.faults source.old) (S.faults source.new) }
+    ensures sink_counted { IsSinkCounted result.status (K.faults sink.old) (K.faults sink.new) }
     ensures source_counts { S.faults source.old ≤ S.faults source.new }
     ensures sink_counts { K.faults sink.old ≤ K.faults sink.new }
 {
