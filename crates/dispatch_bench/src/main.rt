@@ -116,6 +116,3 @@ fn main(rt: HostRuntime) -> ExitCode {
         Err(Fault::NoMemory) => 6,
     })
 }
-
-#[cfg(test)]
-mod tests;

@@ -36,6 +36,3 @@ pub use parents::Parents;
 pub use program::Program;
 pub use tuple::Tuple;
 pub use why::{ApplyFault, BatchFault, Why};
-
-#[cfg(test)]
-mod tests;
