@@ -128,6 +128,3 @@ fn main(rt: HostRuntime) -> ExitCode {
         Err(Fault::NoMemory) => 6,
     })
 }
-
-#[cfg(test)]
-mod tests;

@@ -44,6 +44,3 @@ pub use program::Program;
 pub use tuple::Tuple;
 pub use two_programs::TwoPrograms;
 pub use why::{ApplyFault, BatchFault, Why};
-
-#[cfg(test)]
-mod tests;

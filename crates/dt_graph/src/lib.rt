@@ -32,8 +32,3 @@ pub use limits::{CLASSES, PARENTS};
 pub use listed::lists_agree;
 pub use no_memory::NoMemory;
 pub use steps::Steps;
-
-#[cfg(test)]
-mod search_tests;
-#[cfg(test)]
-mod tests;

@@ -15,14 +15,3 @@ pub use laws::{
 pub use look_up::resolve;
 pub use query::Query;
 pub use reply::{Answer, Change, Reply};
-
-#[cfg(test)]
-mod chance;
-#[cfg(test)]
-mod example;
-#[cfg(test)]
-mod second_look_up;
-#[cfg(test)]
-mod tally;
-#[cfg(test)]
-mod tests;

@@ -14,6 +14,3 @@ pub use limits::{BODIES, NAMES, SELECTORS};
 pub use names::{NameFault, Names};
 pub use numbers::{Arity, BodyNo, SelNo};
 pub use selectors::{SelectorFault, Selectors};
-
-#[cfg(test)]
-mod tests;
