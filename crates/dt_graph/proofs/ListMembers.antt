@@ -107,7 +107,12 @@ module _ {T : Type 0} (p q : T → Bool) where
       (λ e. rw e (elim (q y) as (λ v. length (filter p ys) ≤ length (cond v (y ∷ filter q ys) (filter q ys)))
       [ true ↦ omega (arith, fewer) | false ↦ fewer ]))
 
-  -- tests that agree at each element keep the same elements
+  -- tests that agree at each element answer the same of any
+  pub list_any_agree_in : (xs : List T) → ((x : T) → In xs x → p x ≡ q x) → list_any p xs ≡ list_any q xs
+  list_any_agree_in [] f = refl
+  list_any_agree_in (y ∷ ys) f = rw (f y (inl refl), list_any_agree_in ys (λ x i. f x (inr i))) refl
+
+  -- and keep the same elements
   pub filter_agree_in : (xs : List T) → ((x : T) → In xs x → p x ≡ q x) → filter p xs ≡ filter q xs
   filter_agree_in [] f = refl
   filter_agree_in (y ∷ ys) f = rw (f y (inl refl), filter_agree_in ys (λ x i. f x (inr i))) refl

@@ -12,7 +12,7 @@ use Rattle.dt_definitions.specs.declared.defined.Defined.{Defined}
 use Rattle.dt_scratch.specs.Resolve.{are_below, is_more_specific_at}
 use Rattle.dt_scratch.specs.Among.{applicable_among, is_better, IsTransitive}
 use Rattle.dt_scratch.proofs.MoreSpecific.{is_more_specific-irreflexive}
-use Rattle.dt_scratch.proofs.Members.{In, In-append, In-push, Contains-from_In, none_at, none_from}
+use Rattle.dt_graph.proofs.ListMembers.{In, In-append, In-push, Contains-from_In, none_at, none_from}
 
 -- whether a definition of the list is more specific
 abbrev pub is_beaten : List Link → List Defined → Defined → Bool

@@ -1,12 +1,13 @@
 pub mod AnswerAmong
 pub mod Best
 pub mod Cells
-pub mod FreeOrder
 pub mod LiveNumbers
+pub mod Locality
 pub mod Lowest
-pub mod Members
 pub mod MoreSpecific
-pub mod OtherReplies
+pub mod OtherCells
 pub mod Replies
+pub mod SameAnswers
 pub mod StrictOrder
 pub mod TopClasses
+pub mod Unmet

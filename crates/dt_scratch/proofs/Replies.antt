@@ -9,7 +9,7 @@ use Rattle.dt_scratch.specs.declared.reply.Reply.TheVariants.{Answered}
 use Rattle.dt_scratch.specs.Query.{Query, arity_of_query}
 use Rattle.dt_scratch.specs.Resolve.{are_below, applicable, minimal, answer_by, answer, first_dead, reply}
 use Rattle.dt_scratch.specs.Among.{answer_among}
-use Rattle.dt_scratch.proofs.Members.{filter-filter}
+use Rattle.dt_graph.proofs.ListMembers.{filter-filter}
 
 -- what is known of the parts from which the answer was made
 pub record IsAnswered (p : Program) (q : Query) (graph : Graph) (selector arity : ℕ) (classes : List ℕ)

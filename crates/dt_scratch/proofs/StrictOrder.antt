@@ -2,7 +2,7 @@
 use Rattle.std.proofs.Common.{◌≡◌, Bool, true, false, not, List, [], ◌∷◌, length, ◌⊎◌, inl, inr, ⊎_elim, refl, sym, ap, ◌∙◌, subst, arith}
 use Rattle.std.specs.List.{filter, list_any}
 use Rattle.std.proofs.lemmas.Bool.{both_ways, or_from, false_from_ne_true, true_from_ne_false, not_from_false}
-use Rattle.dt_scratch.proofs.Members.{by_cases, In, In-filter, In-from_filter, none_at, filter_agree_in, filter-weaker}
+use Rattle.dt_graph.proofs.ListMembers.{by_cases, In, In-filter, In-from_filter, none_at, filter_agree_in, filter-weaker}
 
 -- none of the list is less than the element
 abbrev pub none_less : {T : Type 0} → (T → T → Bool) → List T → T → Bool

@@ -10,7 +10,8 @@ mod reply;
 mod specificity;
 
 pub use laws::{
-    law_of_answers, law_of_cells, order_is_free, others_keep_their_reply, top_sees_itself,
+    edits_change_what_they_concern, law_of_answers, law_of_cells, others_keep_their_cell,
+    top_sees_itself,
 };
 pub use look_up::resolve;
 pub use query::Query;
