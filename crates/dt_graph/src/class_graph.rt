@@ -1,6 +1,6 @@
 ghost use Rattle.std.specs.Prelude.{◌≡◌, ℕ, ◌<◌, ◌≤◌, ◌↔◌, IsTrue, ◌++◌, IfOk, OnOk, OnErr, None, length, find};
 ghost use Rattle.dt_graph.specs.Refusal.{ok_unless};
-ghost use Rattle.dt_graph.specs.Graph.{Graph, empty_graph, is_live, has_link, parent_count};
+ghost use Rattle.dt_graph.specs.Graph.{Graph, empty_graph, has_number, is_live, has_link, parent_count};
 ghost use Rattle.dt_graph.specs.Parents.{parents_of};
 ghost use Rattle.dt_graph.specs.Below.{HasNoCycle, IsBelow, is_below};
 ghost use Rattle.dt_graph.specs.Descendants.{descendants};
@@ -12,6 +12,7 @@ ghost use Rattle.dt_graph.specs.GraphChange.{add_cause, add_effect, drop_cause, 
 use crate::ancestry::Ancestry;
 use crate::class_no::ClassNo;
 use crate::class_rows::ClassRows;
+use crate::class_set::ClassSet;
 use crate::graph_fault::GraphFault;
 use crate::no_memory::NoMemory;
 use crate::renewal::{join_all, renew};
@@ -79,9 +80,9 @@ impl ClassGraph {
     pub(crate) fn lowest_subclass(&self, class: ClassNo) -> Option<ClassNo>
         ensures { result ≡ lowest_subclass self.now.links class }
     {
-        let below = self.ancestry.below(class);
+        let below = self.below(class);
         below.law();
-        self.rows.law();
+        self.law();
         self.first_with_parent(below.classes().as_slice(), class)
     }
 
@@ -103,6 +104,31 @@ impl ClassGraph {
         self.ancestry.holds(low, high)
     }
 
+    /// The classes at or below `class`. Where `class` is live, they are the live ones at or below it; where it isn't,
+    /// `class` alone. Kept, so it takes one step.
+    pub fn below(&self, class: ClassNo) -> &ClassSet
+        ensures test { (low : ℕ) → has_number result.now low ≡ is_below self.now.links low class }
+        ensures live { IsTrue (is_live self.now class) → result.now ≡ descendants self.now class }
+    {
+        self.rows.law();
+        let below = self.ancestry.below(class);
+        below.law();
+        below
+    }
+
+    /// The classes at or above `class`. Where `class` is live, they are live; where it isn't, `class` alone. Kept, so it
+    /// takes one step.
+    pub fn above(&self, class: ClassNo) -> &ClassSet
+        ensures test { (high : ℕ) → has_number result.now high ≡ is_below self.now.links class high }
+        ensures live { (high : ℕ) → IsTrue (is_live self.now class) → IsTrue (has_number result.now high)
+            → IsTrue (is_live self.now high) }
+    {
+        self.rows.law();
+        let above = self.ancestry.above(class);
+        above.law();
+        above
+    }
+
     /// Appends the live classes at or below `class`, in ascending order: none where `class` isn't live. [`NoMemory`]
     /// where no memory was found; `out` is as it was then.
     pub fn descendants_into(&self, class: ClassNo, out: &mut Vec<ClassNo>) -> Result<(), NoMemory>
@@ -113,8 +139,7 @@ impl ClassGraph {
         if !self.is_live(class) {
             return Ok(());
         }
-        let below = self.ancestry.below(class);
-        below.law();
+        let below = self.below(class);
         below.push_into(out)
     }
 
@@ -126,9 +151,7 @@ impl ClassGraph {
         if !self.is_live(class) {
             return 0;
         }
-        let below = self.ancestry.below(class);
-        below.law();
-        below.len()
+        self.below(class).len()
     }
 
     /// An equal graph, with memory of its own; [`NoMemory`] where none was found.
