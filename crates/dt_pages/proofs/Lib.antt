@@ -4,3 +4,7 @@ pub mod Readings
 pub mod ThreeWords
 pub mod SixPages
 pub mod Needed
+pub mod Numbers
+pub mod Drafts
+pub mod Images
+pub mod Laying

@@ -3,6 +3,17 @@
 
 ghost use Rattle.dt_pages.specs.Laws.{EmptyImageIsBlank, SameReading, SameReach, TopIsReached, PageZeroIsBlank, PageZeroReachesItself, NodesAreCounted, DifferencesAreSeen, LevelsHoldAddresses, ImagesSetWords, NothingIsPastTheLast, FirstNeedsAll, SameNeedsNone, NeedIsAtMostNodes, SixPages, PlacesOfThreeWords};
 
+mod draft;
+mod leaf;
+mod middle;
+mod overlay;
+mod tree;
+mod words;
+
+pub use draft::Draft;
+pub use tree::Tree;
+pub use words::Words;
+
 /// A reading depends on the words of the pages that its top page reaches, and on no other.
 pub fn reached_pages_decide()
     ensures reading { SameReading }

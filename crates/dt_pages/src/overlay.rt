@@ -1,0 +1,86 @@
+ghost use Rattle.std.specs.Prelude.{◌≡◌, ◌<◌, ◌==◌, ◌/◌, ℕ, true, length, get_or, is_some, None, OnOk, if◌then◌else◌};
+ghost use Rattle.std.specs.FinMap.{get};
+ghost use Rattle.dt_pages.specs.Reading.{addresses};
+ghost use Rattle.dt_pages.specs.Draft.{laid_over};
+ghost use Rattle.dt_pages.specs.TreeForm.{word_of_tree, has_room};
+
+use crate::draft::Draft;
+use crate::middle::{MIDDLE, Middle};
+use dt_graph::NoMemory;
+use std::alloc::Global;
+
+/// The middle node of this place is there; no word changes.
+fn make_middle(
+    alloc: Global,
+    middles: &mut Vec<Option<Middle>>,
+    place: usize,
+) -> Result<(), NoMemory>
+    requires { place < length middles.old.items }
+    ensures count { length middles.new.items ≡ length middles.old.items }
+    ensures words { (q : ℕ) → word_of_tree middles.new.items q ≡ word_of_tree middles.old.items q }
+    ensures others { (q : ℕ) → has_room middles.old.items q ≡ true → has_room middles.new.items q ≡ true }
+    ensures there { OnOk result (is_some (get_or middles.new.items place None) ≡ true) }
+{
+    if middles[place].is_none() {
+        middles[place] = Some(Middle::new(alloc)?);
+    }
+    Ok(())
+}
+
+/// The leaf of the address, whose middle node is there, is there; no word changes.
+fn make_leaf(alloc: Global, middles: &mut Vec<Option<Middle>>, at: usize) -> Result<(), NoMemory>
+    requires count { length middles.old.items ≡ 512 }
+    requires within { at < addresses }
+    requires there { is_some (get_or middles.old.items (at / 262144) None) ≡ true }
+    ensures count { length middles.new.items ≡ 512 }
+    ensures words { (q : ℕ) → word_of_tree middles.new.items q ≡ word_of_tree middles.old.items q }
+    ensures others { (q : ℕ) → has_room middles.old.items q ≡ true → has_room middles.new.items q ≡ true }
+    ensures room { OnOk result (has_room middles.new.items at ≡ true) }
+{
+    match &mut middles[at / MIDDLE] {
+        Some(middle) => middle.make_room(alloc, at % MIDDLE),
+        None => Ok(()),
+    }
+}
+
+/// The word at the address, whose leaf is there, is another.
+fn lay(middles: &mut Vec<Option<Middle>>, at: usize, word: u64)
+    requires count { length middles.old.items ≡ 512 }
+    requires within { at < addresses }
+    requires room { has_room middles.old.items at ≡ true }
+    ensures count { length middles.new.items ≡ 512 }
+    ensures words { (q : ℕ) → word_of_tree middles.new.items q ≡ (if q == at then word else word_of_tree middles.old.items q) }
+    ensures rooms { (q : ℕ) → has_room middles.new.items q ≡ has_room middles.old.items q }
+{
+    if let Some(middle) = &mut middles[at / MIDDLE] {
+        middle.set(at % MIDDLE, word);
+    }
+}
+
+/// The leaves of all words of the draft are there; no word changes.
+pub(crate) fn make_rooms(middles: &mut Vec<Option<Middle>>, draft: &Draft) -> Result<(), NoMemory>
+    requires { length middles.old.items ≡ 512 }
+    ensures count { length middles.new.items ≡ 512 }
+    ensures words { (q : ℕ) → word_of_tree middles.new.items q ≡ word_of_tree middles.old.items q }
+    ensures rooms { OnOk result ((q : ℕ) → is_some (get draft.now q) ≡ true → has_room middles.new.items q ≡ true) }
+{
+    let alloc = *middles.allocator();
+    for (at, _word) in &draft.words {
+        let at = *at as usize;
+        make_middle(alloc, middles, at / MIDDLE)?;
+        make_leaf(alloc, middles, at)?;
+    }
+    Ok(())
+}
+
+/// The words of the draft, whose leaves are there, are set.
+pub(crate) fn lay_all(middles: &mut Vec<Option<Middle>>, draft: &Draft)
+    requires count { length middles.old.items ≡ 512 }
+    requires rooms { (q : ℕ) → is_some (get draft.now q) ≡ true → has_room middles.old.items q ≡ true }
+    ensures count { length middles.new.items ≡ 512 }
+    ensures words { (q : ℕ) → word_of_tree middles.new.items q ≡ laid_over draft.now (word_of_tree middles.old.items) q }
+{
+    for (at, word) in &draft.words {
+        lay(middles, *at as usize, *word);
+    }
+}
