@@ -3,7 +3,7 @@ use Rattle.std.specs.Prelude.{◌≢◌, ℕ, zero, suc, ◌+◌, ◌/◌, ◌^�
 use Rattle.std.specs.Ordering.{nat_cmp}
 use Rattle.std.specs.FinMap.{FinMap, get, entries}
 use Rattle.std.specs.List.{list_any, dedup}
-use Rattle.dt_pages.specs.Reading.{Reading, levels, addresses}
+use Rattle.dt_pages.specs.Reading.{Reading, page_words, levels, addresses}
 
 -- the words that are set, by address
 abbrev pub Image : Type 0
@@ -20,7 +20,7 @@ look_up image address = unwrap_or (get image address) 0
 -- a page of level 1 stands over 512 addresses, one of each further level over 512 pages of the level below;
 -- this is the place of an address's page among those of a level
 abbrev pub place : ℕ → ℕ → ℕ
-place level address = address / 512 ^ level
+place level address = address / page_words ^ level
 
 -- the places of a level below which a word is set, each once
 abbrev pub used_places : Image → ℕ → List ℕ

@@ -2,12 +2,12 @@
 use Rattle.std.specs.Prelude.{true, false, ◌≢◌, ◌≡◌, ℕ, ◌<◌, ◌≤◌, ◌^◌, ◌==◌, ◌↔◌, if◌then◌else◌, ◌&&◌, List, [], ◌∷◌, Some, Any, Contains}
 use Rattle.std.specs.List.Sorted.{IsStrictlyIncreasing}
 use Rattle.std.specs.FinMap.{empty, entries, from_sorted, get}
-use Rattle.dt_pages.specs.Reading.{Pages, blank, levels, addresses, reading, Reaches}
+use Rattle.dt_pages.specs.Reading.{Pages, page_words, blank, levels, addresses, reading, Reaches}
 use Rattle.dt_pages.specs.Image.{Image, IsImage, place, used_places, differs_below, look_up, nodes_up_to, nodes, need_up_to, need}
 
 -- the words of the page are the same in both
 abbrev pub SamePage : Pages → Pages → ℕ → Type 0
-SamePage pages others page = (at : ℕ) → at < 512 → pages page at ≡ others page at
+SamePage pages others page = (at : ℕ) → at < page_words → pages page at ≡ others page at
 
 -- where the words of every page that a top page reaches are the same, it gives the same reading
 abbrev pub SameReading : Type 0
@@ -22,6 +22,12 @@ SameReach = (pages others : Pages) (top : ℕ) → ((page : ℕ) → Reaches pag
 -- a top page reaches itself
 abbrev pub TopIsReached : Type 0
 TopIsReached = (pages : Pages) (top : ℕ) → Reaches pages top top
+
+-- so the words of the pages that a top page reaches decide what it gives and what it reaches; it is one of them
+pub record ReachedPagesDecide : Type 0 where
+  pub reading : SameReading
+  pub reach : SameReach
+  pub itself : TopIsReached
 
 -- a word of the image is set below this place of a level
 abbrev pub HasWordBelow : Image → ℕ → ℕ → Type 0
@@ -64,16 +70,22 @@ EmptyImageIsBlank = look_up empty ≡ blank
 
 -- where page 0 has zeros, every address of it reads as 0
 abbrev pub PageZeroIsBlank : Type 0
-PageZeroIsBlank = (pages : Pages) → ((at : ℕ) → at < 512 → pages 0 at ≡ 0) → reading pages 0 ≡ blank
+PageZeroIsBlank = (pages : Pages) → ((at : ℕ) → at < page_words → pages 0 at ≡ 0) → reading pages 0 ≡ blank
 
 -- where page 0 has zeros, it reaches only itself
 abbrev pub PageZeroReachesItself : Type 0
-PageZeroReachesItself = (pages : Pages) → ((at : ℕ) → at < 512 → pages 0 at ≡ 0)
+PageZeroReachesItself = (pages : Pages) → ((at : ℕ) → at < page_words → pages 0 at ≡ 0)
     → (page : ℕ) → Reaches pages 0 page → page ≡ 0
+
+-- so page 0 is the empty page
+pub record PageZeroIsEmpty : Type 0 where
+  pub image : EmptyImageIsBlank
+  pub reading : PageZeroIsBlank
+  pub reach : PageZeroReachesItself
 
 -- so many levels of pages of 512 words stand over the addresses, and over no more
 abbrev pub LevelsHoldAddresses : Type 0
-LevelsHoldAddresses = addresses ≡ 512 ^ levels
+LevelsHoldAddresses = addresses ≡ page_words ^ levels
 
 -- what is set in an image is set at an address, and isn't 0
 abbrev pub ImagesSetWords : Type 0

@@ -1,7 +1,7 @@
 //! What a tree of pages shows, and what it takes to keep it.
 #![tactic(auto)]
 
-ghost use Rattle.dt_pages.specs.Laws.{EmptyImageIsBlank, SameReading, SameReach, TopIsReached, PageZeroIsBlank, PageZeroReachesItself, NodesAreCounted, DifferencesAreSeen, LevelsHoldAddresses, ImagesSetWords, NothingIsPastTheLast, FirstNeedsAll, SameNeedsNone, NeedIsAtMostNodes, SixPages, PlacesOfThreeWords};
+ghost use Rattle.dt_pages.specs.Laws.{ReachedPagesDecide, PageZeroIsEmpty, NodesAreCounted, DifferencesAreSeen, LevelsHoldAddresses, ImagesSetWords, NothingIsPastTheLast, FirstNeedsAll, SameNeedsNone, NeedIsAtMostNodes, SixPages, PlacesOfThreeWords};
 
 mod draft;
 mod leaf;
@@ -16,16 +16,12 @@ pub use words::Words;
 
 /// A reading depends on the words of the pages that its top page reaches, and on no other.
 pub fn reached_pages_decide()
-    ensures reading { SameReading }
-    ensures reach { SameReach }
-    ensures itself { TopIsReached }
+    ensures { ReachedPagesDecide }
 {}
 
 /// Page 0 holds zeros: as a top page it shows the image in which nothing is set, and reaches no other page.
 pub fn page_zero_is_empty()
-    ensures image { EmptyImageIsBlank }
-    ensures reading { PageZeroIsBlank }
-    ensures reach { PageZeroReachesItself }
+    ensures { PageZeroIsEmpty }
 {}
 
 /// A node is counted exactly where a word is set below it, and once; and it is seen to differ exactly where some word does.
