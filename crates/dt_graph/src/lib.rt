@@ -24,8 +24,8 @@ pub use class_no::ClassNo;
 pub use class_set::ClassSet;
 pub use graph_fault::GraphFault;
 pub use law::{
-    changes_are_undone, changes_keep_law, refusals_are_needed, what_changes_leave,
-    what_restoring_leaves,
+    changes_are_undone, changes_keep_law, graphs_are_shared, refusals_are_needed,
+    what_changes_leave, what_restoring_leaves,
 };
 pub use limits::{CLASSES, PARENTS};
 pub use listed::lists_agree;

@@ -2,3 +2,4 @@ pub mod Arities
 pub mod LawfulChanges
 pub mod Rows
 pub mod Texts
+pub mod LiveLists
