@@ -16,6 +16,7 @@ pub mod Members
 pub mod DescendantLists
 pub mod AscendingSets
 pub mod ClassBits
+pub mod LiveLists
 pub mod Renewing
 pub mod FirstClass
 pub mod AncestryRows

@@ -14,10 +14,14 @@ use crate::class_no::ClassNo;
 use crate::class_rows::ClassRows;
 use crate::class_set::ClassSet;
 use crate::graph_fault::GraphFault;
+use crate::limits::CLASSES;
 use crate::no_memory::NoMemory;
 use crate::renewal::{join_all, renew};
+use arrayvec::ArrayVec;
 use std::alloc::Global;
 use std::marker::Model;
+
+const PLACES: usize = CLASSES as usize;
 
 /// The live classes and the links from classes to parents.
 #[derive(Debug, Drop)]
@@ -53,6 +57,22 @@ impl ClassGraph {
         ensures { result ≡ is_live self.now class }
     {
         self.rows.is_live(class)
+    }
+
+    /// The live classes, in ascending order, in a list that takes 4 KB where it stands and no other memory. It asks each
+    /// of the 2,048 class numbers.
+    pub fn classes(&self) -> ArrayVec<ClassNo, PLACES>
+        ensures { result.items ≡ self.now.classes }
+    {
+        self.law();
+        let mut classes = ArrayVec::new();
+        for number in 0..PLACES {
+            let class = ClassNo::from_index(number);
+            if self.is_live(class) {
+                classes.push(class);
+            }
+        }
+        classes
     }
 
     /// The parents of the class, in ascending order: none where it isn't live.
@@ -243,10 +263,18 @@ impl ClassGraph {
         Ok(())
     }
 
-    /// The class is as it was before a change: live with these parents alone, or not live.
+    /// For undoing alone: the class is as it was before one change, live with these parents alone or not live.
     ///
-    /// The graph that this leaves must be lawful, as it is where a change of this class alone is undone. There are at
-    /// most [`PARENTS`](crate::PARENTS) parents.
+    /// Who undoes a change kept [`is_live`](ClassGraph::is_live) and [`parents`](ClassGraph::parents) of its class before
+    /// it; every change touches one class and its links to parents. The last change is undone first, so that all other
+    /// classes are as they were then; the condition holds and the graph is the one before the change
+    /// ([`changes_are_undone`](crate::changes_are_undone)). No call tests the condition: for any other purpose take
+    /// [`add`](ClassGraph::add), [`drop_class`](ClassGraph::drop_class), [`link`](ClassGraph::link) and
+    /// [`unlink`](ClassGraph::unlink), which refuse.
+    ///
+    /// It never wants memory. It costs what the change costs that it undoes, and where that was an unlink, up to one step
+    /// for each class at or below this one and each class that it is below again.
+    #[doc(hidden)]
     pub fn restore(&mut self, class: ClassNo, is_live: bool, parents: &[ClassNo])
         requires few { length parents.now ≤ PARENTS }
         requires lawful { LawfulGraph (restore_effect self.old class is_live parents.now) }

@@ -3,6 +3,9 @@ ghost use Rattle.dt_selectors.specs.Selectors.{Selector, place_selector, without
 ghost use Rattle.dt_selectors.specs.Lawful.{LawfulSelector, LawfulSelectors};
 ghost use Rattle.dt_selectors.specs.Laws.{AddingSetsOneArity, DroppingUnsetsOneArity, KnownNamesStay, NewNamesAreLast, NumbersStay};
 
+use crate::names::Names;
+use crate::selectors::Selectors;
+
 /// The empty list of selectors is lawful, and a lawful list stays so when a lawful selector is placed in it or one is
 /// taken away. It does nothing: a caller whose reasoning needs this calls it.
 pub fn changes_keep_law()
@@ -27,3 +30,12 @@ pub fn names_keep_their_numbers()
     ensures new { NewNamesAreLast }
     ensures known { KnownNamesStay }
 {}
+
+/// Types whose values threads may hand on and share.
+fn is_shared<T: Send + Sync>() {}
+
+/// Names and selectors may be handed to another thread, and read by several.
+pub fn names_and_selectors_are_shared() {
+    is_shared::<Names>();
+    is_shared::<Selectors>();
+}
