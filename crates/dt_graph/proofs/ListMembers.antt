@@ -53,6 +53,10 @@ module _ {T : Type 0} (p : T → Bool) where
   In-filter (y ∷ ys) x (inr i) e =
       elim (p y) as (λ v. In (cond v (y ∷ filter p ys) (filter p ys)) x) [ true ↦ inr (In-filter ys x i e) | false ↦ In-filter ys x i e ]
 
+  pub filter_none_in : (xs : List T) → ((x : T) → In xs x → p x ≡ false) → filter p xs ≡ []
+  filter_none_in [] f = refl
+  filter_none_in (y ∷ ys) f = rw (f y (inl refl)) (filter_none_in ys (λ x i. f x (inr i)))
+
   In-filter-cons : (b : Bool) (y : T) (ys : List T) (x : T) → p y ≡ b → In (cond b (y ∷ filter p ys) (filter p ys)) x →
       (In (filter p ys) x → In ys x × (p x ≡ true)) → In (y ∷ ys) x × (p x ≡ true)
   In-filter-cons true y ys x e (inl q) f = (inl q, ap p q ∙ e)

@@ -11,3 +11,4 @@ pub mod SameAnswers
 pub mod StrictOrder
 pub mod TopClasses
 pub mod Unmet
+pub mod Parts

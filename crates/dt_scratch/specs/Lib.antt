@@ -13,5 +13,6 @@ pub mod Locality
 pub mod LocalityLaws
 pub mod LocalityExamples
 pub mod Among
+pub mod AmongLaws
 pub mod AmongExamples
 pub mod QueryParts

@@ -1,3 +1,4 @@
+ghost use Rattle.dt_scratch.specs.AmongLaws.{AllAreEnough, PartsAreEnough};
 ghost use Rattle.dt_scratch.specs.CellLaws.{CellsAreAnswers, OnlyAnswersAreInCells, UnderstoodCells};
 ghost use Rattle.dt_scratch.specs.Laws.{LowestAnswers, MethodsAreInRange, MethodsAreLowest, NotUnderstoodWhereNone, SameAnswersWhereSame, TopSeesItself};
 ghost use Rattle.dt_scratch.specs.LocalityLaws.{BatchesChangeWhatTheyConcern, EditsChangeWhatTheyConcern, EditsConcernTheSameAfter, OthersKeepTheirCell};
@@ -47,4 +48,12 @@ pub fn edits_change_what_they_concern()
 /// has a class at or below one whose links differ. It does nothing: a caller whose reasoning needs this calls it.
 pub fn others_keep_their_cell()
     ensures { OthersKeepTheirCell }
+{}
+
+/// Which definitions are enough for [`answer_among`](crate::answer_among): all of the query's selector, and whatever is
+/// left of enough when some that aren't applicable are left out. It does nothing: a caller whose reasoning needs this
+/// calls it.
+pub fn parts_are_enough()
+    ensures all { AllAreEnough }
+    ensures parts { PartsAreEnough }
 {}

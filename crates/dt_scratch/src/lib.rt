@@ -9,9 +9,10 @@ mod query;
 mod reply;
 mod specificity;
 
+pub use among::answer_among;
 pub use laws::{
     edits_change_what_they_concern, law_of_answers, law_of_cells, others_keep_their_cell,
-    top_sees_itself,
+    parts_are_enough, top_sees_itself,
 };
 pub use look_up::resolve;
 pub use query::Query;
