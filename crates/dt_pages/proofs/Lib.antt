@@ -4,3 +4,5 @@ pub mod Readings
 pub mod ThreeWords
 pub mod SixPages
 pub mod Needed
+pub mod Listed
+pub mod Few
