@@ -231,12 +231,24 @@ module _ {M I : Type 0} where
       (swept reads begun (read.0 ∷ done) (after_poll author read.0 read.1) (sweeping_next begun done author read.0 read.1 so_far first.0 old) once.1
       (to_come author read reads done old once.0 (λ root is. new root (in_tail read.0 root (sweep.polled reads) is))))
 
+  -- where every old root was polled, each that is still old is held
+  whole_sweep : (author next : Author M I) (reads : List (ℕ × ℕ))
+      → ((root : ℕ) → is_old (root_at next root).standing ≡ true → stands_in root (sweep.polled reads) ≡ true → stands_in root next.held ≡ true)
+      → ((root : ℕ) → stands_in root (sweep.polled reads) ≡ false → root_at next root ≡ root_at author root)
+      → ((root : ℕ) → is_old (root_at author root).standing ≡ true → stands_in root (sweep.polled reads) ≡ true) → AllOldAreHeld next
+  whole_sweep author next reads held others every root old = go (stands_in root (sweep.polled reads)) refl
+    where
+      go : (polled : Bool) → stands_in root (sweep.polled reads) ≡ polled → stands_in root next.held ≡ true
+      go true is = held root old is
+      go false is = absurd (true≢false (sym (every root (ap (λ (r : Root). is_old r.standing) (sym (others root is)) ∙ old)) ∙ is))
+
   pub sweep_leads : (author : Author M I) (reads : List (ℕ × ℕ)) → IsOfASweep author reads → SweepLeads author reads (after_polls author reads)
   sweep_leads author [] part = record {
     polls = sym (append-nil author.polls);
     decides = tt;
     held_or_to_come = λ root old is. absurd (true≢false (sym is));
     others = λ root is. refl;
+    whole = whole_sweep author author [] (λ root old is. absurd (true≢false (sym is))) (λ root is. refl);
     count = inl refl;
     out = refl;
   }
@@ -245,6 +257,7 @@ module _ {M I : Type 0} where
     decides = all.decides;
     held_or_to_come = λ root old is. all.sweeping.old_are_held root old (all.these root is);
     others = all.others;
+    whole = whole_sweep author (after_polls author (read ∷ reads)) (read ∷ reads) (λ root old is. all.sweeping.old_are_held root old (all.these root is)) all.others;
     count = inr all.sweeping.count;
     out = all.sweeping.out;
   }

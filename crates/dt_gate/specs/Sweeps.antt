@@ -45,13 +45,16 @@ module _ {M I : Type 0} where
         → (root_at next read.0).standing ≡ Old entries
 
   -- where it leads: each poll is kept, once; each read decides; every old root is found held or not yet polled;
-  -- the other roots are as they were; and the count of the sweep is that of the readers out, which stay
+  -- the other roots are as they were; where every old root was polled, each that is still old is held;
+  -- and the count of the sweep is that of the readers out, which stay
   pub record SweepLeads (author : Author M I) (reads : List (ℕ × ℕ)) (next : Author M I) : Type 0 where
     pub polls : next.polls ≡ author.polls ++ reads
     pub decides : AllByRecursion (ReadDecides author next) reads
     pub held_or_to_come : (root : ℕ) → is_old (root_at next root).standing ≡ true
         → stands_in root (polled reads) ≡ true → stands_in root next.held ≡ true
     pub others : (root : ℕ) → stands_in root (polled reads) ≡ false → root_at next root ≡ root_at author root
+    pub whole : ((root : ℕ) → is_old (root_at author root).standing ≡ true → stands_in root (polled reads) ≡ true)
+        → AllOldAreHeld next
     pub count : (reads ≡ []) ⊎ (next.sweep ≡ author.out)
     pub out : next.out ≡ author.out
 
