@@ -157,7 +157,7 @@ impl World {
         }
         for (place, number) in (1..).zip(classes) {
             if !self.below.contains(&(*number, *number)) {
-                return Reply::NoClass { place };
+                return Reply::NoClass { position: place };
             }
         }
         Reply::Answered {

@@ -96,7 +96,7 @@ fn method(body: u16) -> Option<Reply> {
 fn replies(rt: HostRuntime) -> Result<(), Fail> {
     let not_understood = answered(Answer::NotUnderstood);
     let ambiguous = answered(Answer::Ambiguous);
-    let no_class = |place| Some(Reply::NoClass { place });
+    let no_class = |place| Some(Reply::NoClass { position: place });
     let rows = [
         // A, B and C below it, and D below both; f at B and at C, then at D; then D without its link to C.
         (Line::Class(0, &[]), None),
