@@ -21,7 +21,7 @@ use Rattle.dt_graph.proofs.ListMembers.{by_cases, In, In-from_filter, All-In}
 only_answers : (r : Reply) → cell_of r ≢ NotUnderstood → r ≡ Answered (cell_of r)
 only_answers NoSelector h = absurd (h refl)
 only_answers WrongArity h = absurd (h refl)
-only_answers (NoClass place) h = absurd (h refl)
+only_answers (NoClass position) h = absurd (h refl)
 only_answers (Answered a) h = refl
 
 pub only_answers_are_in_cells : OnlyAnswersAreInCells
@@ -30,7 +30,7 @@ only_answers_are_in_cells program query h = only_answers (reply program query) h
 -- the parts of a reply that is an answer
 by_classes : (dead : Option ℕ) (given a : Answer) → reply_by_classes dead given ≡ Answered a → (dead ≡ None) × (given ≡ a)
 by_classes None given a e = (refl, cc)
-by_classes (Some place) given a e = absurd (cc)
+by_classes (Some position) given a e = absurd (cc)
 
 by_arity : (live : Option ℕ) (asked : ℕ) (dead : Option ℕ) (given a : Answer) →
     reply_by_arity live asked (reply_by_classes dead given) ≡ Answered a →
@@ -44,7 +44,7 @@ by_arity (Some arity) asked dead given a e =
 -- no answer, no cell
 no_cell_by_classes : (dead : Option ℕ) → cell_of (reply_by_classes dead NotUnderstood) ≡ NotUnderstood
 no_cell_by_classes None = refl
-no_cell_by_classes (Some place) = refl
+no_cell_by_classes (Some position) = refl
 
 no_cell : (live : Option ℕ) (asked : ℕ) (dead : Option ℕ) →
     cell_of (reply_by_arity live asked (reply_by_classes dead NotUnderstood)) ≡ NotUnderstood
@@ -55,19 +55,19 @@ abbrev IsLive : Graph → ℕ → Type 0
 IsLive graph class = IsTrue (is_live graph class)
 
 -- no class is dead where all are live, and the other way round
-all_live : (graph : Graph) (place : ℕ) (classes : List ℕ) → first_dead graph place classes ≡ None →
+all_live : (graph : Graph) (position : ℕ) (classes : List ℕ) → first_dead graph position classes ≡ None →
     All (IsLive graph) classes
-all_live graph place [] e = All-nil (IsLive graph)
-all_live graph place (class ∷ classes) e =
+all_live graph position [] e = All-nil (IsLive graph)
+all_live graph position (class ∷ classes) e =
     by_cases (is_live graph class)
-    (λ t. All-cons (IsLive graph) class classes t (all_live graph (place + 1) classes (rw t at e)))
-    (λ f. let g : Some place ≡ None = rw f at e in absurd (cc))
+    (λ t. All-cons (IsLive graph) class classes t (all_live graph (position + 1) classes (rw t at e)))
+    (λ f. let g : Some position ≡ None = rw f at e in absurd (cc))
 
-none_dead : (graph : Graph) (place : ℕ) (classes : List ℕ) → All (IsLive graph) classes →
-    first_dead graph place classes ≡ None
-none_dead graph place [] all = refl
-none_dead graph place (class ∷ classes) all =
-    rw (All-head (IsLive graph) class classes all) (none_dead graph (place + 1) classes (All-tail (IsLive graph) class classes all))
+none_dead : (graph : Graph) (position : ℕ) (classes : List ℕ) → All (IsLive graph) classes →
+    first_dead graph position classes ≡ None
+none_dead graph position [] all = refl
+none_dead graph position (class ∷ classes) all =
+    rw (All-head (IsLive graph) class classes all) (none_dead graph (position + 1) classes (All-tail (IsLive graph) class classes all))
 
 -- the reply where all is live
 reply_of_the_live : (program : Program) (query : Query) → arity_of program query.selector ≡ Some (arity_of_query query) →

@@ -12,3 +12,4 @@ pub mod StrictOrder
 pub mod TopClasses
 pub mod Unmet
 pub mod Parts
+pub mod QueryNumbers

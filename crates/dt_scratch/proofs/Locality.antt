@@ -61,15 +61,15 @@ module _ (edited : List ℕ) (p : Program) (graph : Graph) (same : OthersKeepThe
       (λ d i. ap not (list_any_agree_in (λ other. is_more_specific graph.links other d)
       (λ other. is_more_specific p.graph.links other d) found (λ other j. same_order other d j)))
 
-  same_dead : (place : ℕ) (classes : List ℕ) → meets p.graph.links edited classes ≡ false →
-      first_dead graph place classes ≡ first_dead p.graph place classes
-  same_dead place [] away = refl
-  same_dead place (class ∷ classes) away =
+  same_dead : (position : ℕ) (classes : List ℕ) → meets p.graph.links edited classes ≡ false →
+      first_dead graph position classes ≡ first_dead p.graph position classes
+  same_dead position [] away = refl
+  same_dead position (class ∷ classes) away =
       let parts = or_parts (is_below_any p.graph.links edited class) (meets p.graph.links edited classes) away in
       let apart : has_number edited class ≡ false = false_from_ne_true (has_number edited class)
       (λ here. false≢true (sym parts.0 ∙ edited_is_below_any p.graph.links edited class here)) in
-      ap (λ b. cond b (first_dead graph (place + 1) classes) (Some place)) (sym (live class apart))
-      ∙ ap (λ rest. cond (is_live p.graph class) rest (Some place)) (same_dead (place + 1) classes parts.1)
+      ap (λ b. cond b (first_dead graph (position + 1) classes) (Some position)) (sym (live class apart))
+      ∙ ap (λ rest. cond (is_live p.graph class) rest (Some position)) (same_dead (position + 1) classes parts.1)
 
   same_reply : reply (with_graph p graph) query ≡ reply p query
   same_reply =

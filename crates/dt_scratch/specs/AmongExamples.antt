@@ -30,7 +30,7 @@ answer_at_b = refl
 answer_at_d : answer_among links (D ∷ []) (at f A 5 ∷ at f B 10 ∷ at f C 20 ∷ []) ≡ Ambiguous
 answer_at_d = refl
 
--- lower in one place and the same in the other is more specific; lower in one and higher in the other isn't
+-- lower in one position and the same in the other is more specific; lower in one and higher in the other isn't
 lower_in_one : is_more_specific_at links (B ∷ A ∷ []) (A ∷ A ∷ []) ≡ true
 lower_in_one = refl
 
@@ -89,7 +89,7 @@ b_is_enough = refl
 c_is_not_enough : HasAllApplicable diamond (asks f B) (kept C 20 ∷ []) → ⊥
 c_is_not_enough same = cc
 
--- the places after the classes hold 0, and there is a class
+-- the positions after the classes hold 0, and there is a class
 one_class : IsPadded 1 (3 ∷ 0 ∷ 0 ∷ 0 ∷ [])
 one_class = record { some = omega arith; few = omega arith; four = refl; padded = refl }
 

@@ -1,5 +1,5 @@
 -- Worked examples of cells, and of the laws at small programs.
-use Rattle.std.specs.Prelude.{◌≡◌, ◌==◌, ℕ, Bool, IsTrue, true, false, [], ◌∷◌, refl}
+use Rattle.std.specs.Prelude.{◌≡◌, ◌==◌, ℕ, ◌<◌, Bool, IsTrue, true, false, [], ◌∷◌, refl}
 use Rattle.std.proofs.Common.{arith, ap, sym, ⊎_elim}
 use Rattle.std.proofs.lemmas.Bool.{eqb-true}
 use Rattle.std.proofs.lemmas.List.Elements.{All-nil, All-cons, All-head, All-tail}
@@ -10,6 +10,7 @@ use Rattle.dt_definitions.specs.Program.{Program, Definition}
 use Rattle.dt_definitions.specs.Lawful.{Lawful}
 use Rattle.dt_scratch.specs.declared.reply.Answer.TheVariants.{Method, NotUnderstood, Ambiguous}
 use Rattle.dt_scratch.specs.declared.reply.Reply.TheVariants.{NoSelector, NoClass, Answered}
+use Rattle.dt_scratch.specs.Query.{LawfulQuery}
 use Rattle.dt_scratch.specs.Resolve.{are_below, applicable, answer, reply, cell_of, cell}
 use Rattle.dt_scratch.specs.Laws.{IsTop, TopSeesItself, IsLowest, MethodsAreLowest, LowestAnswers, NotUnderstoodWhereNone, SeeTheSame, SameAnswersWhereSame}
 use Rattle.dt_scratch.specs.CellLaws.{OnlyAnswersAreInCells, IsUnderstood, UnderstoodCells, CellsAreAnswers}
@@ -60,6 +61,21 @@ b_is_not_lowest lowest =
 
 abbrev IsLive : ℕ → Type 0
 IsLive class = IsTrue (is_live diamond_graph class)
+
+-- a query of one class is one that may be asked, and one without a class isn't
+abbrev IsSmall : ℕ → Type 0
+IsSmall n = n < 65536
+
+d_may_be_asked : LawfulQuery (asks f D)
+d_may_be_asked = record {
+  some = omega arith;
+  few = omega arith;
+  selector_in_range = omega arith;
+  classes_in_range = All-cons IsSmall D [] (omega arith) (All-nil IsSmall);
+}
+
+no_class_is_none : LawfulQuery (record { selector = f; classes = [] }) → ⊥
+no_class_is_none lawful = omega (arith, lawful.some)
 
 -- a query that is understood, one to which no definition is applicable, and one of a class that isn't live
 d_is_understood : IsUnderstood diamond (asks f D)

@@ -19,7 +19,7 @@ abbrev pub TopSeesItself : Type 0
 TopSeesItself = (program : Program) (query : Query) → All (IsTop program.graph.links) query.classes →
     applicable program query ≡ filter (is_definition query.selector query.classes) program.definitions
 
--- the definition is applicable to the query, and in every place at or below each that is
+-- the definition is applicable to the query, and in every position at or below each that is
 abbrev pub IsLowest : Program → Query → Definition → Type 0
 IsLowest program query d = Contains (applicable program query) d
     × All (λ other. IsTrue (are_below program.graph.links d.classes other.classes)) (applicable program query)

@@ -15,7 +15,7 @@ use Rattle.dt_scratch.specs.Resolve.{are_below, applicable}
 abbrev pub reaches_up_to : List Link → ℕ → Query → Bool
 reaches_up_to links class query = list_any (λ low. is_below links low class) query.classes
 
--- whether the query is of the selector, and each of its classes at or below the one in the same place
+-- whether the query is of the selector, and each of its classes at or below the one in the same position
 abbrev pub is_below_key : List Link → ℕ → List ℕ → Query → Bool
 is_below_key links selector classes query = (selector == query.selector) && are_below links query.classes classes
 

@@ -21,7 +21,7 @@ by_the_second = refl
 by_none : reaches_up_to links C (asks_two f B A) ≡ false
 by_none = refl
 
--- below the classes of a definition in each place, and of its selector
+-- below the classes of a definition in each position, and of its selector
 below_in_both : is_below_key links f (A ∷ B ∷ []) (asks_two f B D) ≡ true
 below_in_both = refl
 

@@ -10,7 +10,7 @@ pub fn top_sees_itself()
 {}
 
 /// The answers of every lawful program by the lowest applicable definition: the one that is at or below each that is
-/// applicable, in every place. A method is answered exactly where there is one, and it is the method of that one; not
+/// applicable, in every position. A method is answered exactly where there is one, and it is the method of that one; not
 /// understood is answered exactly where no definition is applicable, and so ambiguous in all other cases. So two lawful
 /// programs with the same applicable definitions in the same order of specificity give the same answer. It does
 /// nothing: a caller whose reasoning needs this calls it.
@@ -35,7 +35,7 @@ pub fn law_of_cells()
 /// An edit changes the replies that it concerns, and no others: of a class that comes, goes, is linked or unlinked, the
 /// queries with a class at or below it, by the links before or after, which is the same; of a selector that comes or
 /// goes, its own; of a definition that comes, is replaced or goes, those of its selector whose classes are each at or
-/// below its own in the same place. A batch changes the replies that one of its edits concerns by the links before the
+/// below its own in the same position. A batch changes the replies that one of its edits concerns by the links before the
 /// batch. It does nothing: a caller whose reasoning needs this calls it.
 pub fn edits_change_what_they_concern()
     ensures edit { EditsChangeWhatTheyConcern }

@@ -7,6 +7,7 @@ mod live;
 mod look_up;
 mod query;
 mod reply;
+mod sharing;
 mod specificity;
 
 pub use among::answer_among;

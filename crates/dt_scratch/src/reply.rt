@@ -1,5 +1,6 @@
 use crate::query::Query;
 use dt_definitions::BodyNo;
+use std::fmt;
 
 /// What a query whose selector, arity and classes are right is answered by.
 #[derive(Clone, Copy, Debug, PartialEq, Eq)]
@@ -19,8 +20,8 @@ pub enum Reply {
     NoSelector,
     /// The selector takes another number of arguments.
     WrongArity,
-    /// The class in this place, from 1, isn't live, and each class before it is.
-    NoClass { place: u8 },
+    /// The class in this position, from 1, isn't live, and each class before it is.
+    NoClass { position: u8 },
     /// All are live, and this is the answer.
     Answered { answer: Answer },
 }
@@ -32,4 +33,30 @@ pub struct Change {
     pub query: Query,
     /// Its new answer.
     pub answer: Answer,
+}
+
+/// As a person reads it: `method` with the number of its body, `not understood` or `ambiguous`.
+impl fmt::Display for Answer {
+    fn fmt<W: fmt::Write>(&self, f: &mut fmt::Formatter<W>) -> fmt::Result {
+        match self {
+            Answer::Method { body } => {
+                let body = body.number();
+                write!(f, "method {body}")
+            }
+            Answer::NotUnderstood => f.write_str("not understood"),
+            Answer::Ambiguous => f.write_str("ambiguous"),
+        }
+    }
+}
+
+/// As a person reads it: why there is no answer, with the position of the class, or the answer.
+impl fmt::Display for Reply {
+    fn fmt<W: fmt::Write>(&self, f: &mut fmt::Formatter<W>) -> fmt::Result {
+        match self {
+            Reply::NoSelector => f.write_str("no selector"),
+            Reply::WrongArity => f.write_str("wrong arity"),
+            Reply::NoClass { position } => write!(f, "no class at position {position}"),
+            Reply::Answered { answer } => write!(f, "{answer}"),
+        }
+    }
 }
