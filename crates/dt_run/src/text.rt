@@ -53,9 +53,9 @@ fn push_reply(text: &mut Vec<u8>, names: &NameBook, reply: Reply) -> Result<(), 
     match reply {
         Reply::NoSelector => push_word(text, b"no-selector"),
         Reply::WrongArity => push_word(text, b"wrong-arity"),
-        Reply::NoClass { position } => {
+        Reply::NoClass { place } => {
             push_word(text, b"no-class")?;
-            push_number(text, u64::from(position))
+            push_number(text, u64::from(place))
         }
         Reply::Answered { answer } => push_answer(text, names, answer),
     }

@@ -32,6 +32,6 @@ pub fn resolve(program: &Program, query: &Query) -> Reply
         Ok(classes) => Reply::Answered {
             answer: answer_among(program.graph(), program.definitions_of(selector), &classes),
         },
-        Err(position) => Reply::NoClass { position },
+        Err(place) => Reply::NoClass { place },
     }
 }

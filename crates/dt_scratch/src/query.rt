@@ -89,12 +89,12 @@ impl Query {
         self.arity
     }
 
-    /// The number of the class at this position, from 1; `None` exactly where there is no such position.
-    pub fn class(&self, position: u8) -> Option<u16>
-        ensures { result ≡ at_place self.now.classes position }
+    /// The number of the class at this place, from 1; `None` exactly where there is no such place.
+    pub fn class(&self, place: u8) -> Option<u16>
+        ensures { result ≡ at_place self.now.classes place }
     {
-        let position = usize::from(position).checked_sub(1)?;
-        self.classes().get(position).copied()
+        let place = usize::from(place).checked_sub(1)?;
+        self.classes().get(place).copied()
     }
 
     /// The numbers of the classes, in the order of their positions.

@@ -20,8 +20,8 @@ pub enum Reply {
     NoSelector,
     /// The selector takes another number of arguments.
     WrongArity,
-    /// The class in this position, from 1, isn't live, and each class before it is.
-    NoClass { position: u8 },
+    /// The class in this place, from 1, isn't live, and each class before it is.
+    NoClass { place: u8 },
     /// All are live, and this is the answer.
     Answered { answer: Answer },
 }
@@ -49,13 +49,13 @@ impl fmt::Display for Answer {
     }
 }
 
-/// As a person reads it: why there is no answer, with the position of the class, or the answer.
+/// As a person reads it: why there is no answer, with the place of the class, or the answer.
 impl fmt::Display for Reply {
     fn fmt<W: fmt::Write>(&self, f: &mut fmt::Formatter<W>) -> fmt::Result {
         match self {
             Reply::NoSelector => f.write_str("no selector"),
             Reply::WrongArity => f.write_str("wrong arity"),
-            Reply::NoClass { position } => write!(f, "no class at position {position}"),
+            Reply::NoClass { place } => write!(f, "no class at place {place}"),
             Reply::Answered { answer } => write!(f, "{answer}"),
         }
     }
