@@ -1,5 +1,5 @@
 -- The words of a draft by its ordered map.
-use Rattle.std.proofs.Common.{◌≡◌, ◌≢◌, ℕ, ◌≤◌, ◌<◌, false, cond, List, [], ◌∷◌, Some, None, unwrap_or, refl, sym, ap, ◌∙◌, arith, eqb-true}
+use Rattle.std.proofs.Common.{if◌then◌else◌, ◌==◌, ◌≡◌, ◌≢◌, ℕ, ◌≤◌, ◌<◌, false, cond, List, [], ◌∷◌, Some, None, unwrap_or, refl, sym, ap, ◌∙◌, arith, eqb-true}
 use Rattle.std.specs.Ordering.{nat_cmp, is_eq, eq_by_cmp}
 use Rattle.std.specs.Cmp.{nat_cmp_total}
 use Rattle.std.specs.Map.{lookup}
@@ -49,3 +49,14 @@ read_some m drafted base q v is found = ap (λ o. unwrap_or o (base q)) (found �
 pub read_none : (m : BTreeMap ℕ ℕ) (drafted : Drafted) (base : Reading) (q : ℕ) → from_entries m.entries ≡ drafted → None ≡ tree.get nat_cmp m q
     → base q ≡ laid_over drafted base q
 read_none m drafted base q is found = ap (λ o. unwrap_or o (base q)) (found ∙ sym (got m q) ∙ ap (λ d. get d q) is)
+
+-- one word more is read at its address, and no other changes
+pub set_reads : (drafted new : Drafted) (k v : ℕ) (base : Reading) (address : ℕ) → new ≡ insert drafted k v
+    → laid_over new base address ≡ (if address == k then v else laid_over drafted base address)
+set_reads drafted new k v base address is =
+    ap (λ d. unwrap_or (get d address) (base address)) is
+    ∙ ap (λ o. unwrap_or o (base address)) (get-insert nat_cmp_total drafted k v address)
+    ∙ ap (λ b. unwrap_or (cond b (Some v) (get drafted address)) (base address)) (is_number address k)
+    ∙ by_cases (address == k)
+    (λ t. ap (λ b. unwrap_or (cond b (Some v) (get drafted address)) (base address)) t ∙ sym (ap (λ b. if b then v else laid_over drafted base address) t))
+    (λ f. ap (λ b. unwrap_or (cond b (Some v) (get drafted address)) (base address)) f ∙ sym (ap (λ b. if b then v else laid_over drafted base address) f))

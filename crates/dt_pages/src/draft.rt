@@ -1,6 +1,6 @@
-ghost use Rattle.std.specs.Prelude.{◌≡◌, ◌<◌, OnOk, OnErr};
+ghost use Rattle.std.specs.Prelude.{◌≡◌, ◌<◌, ◌==◌, ℕ, OnOk, OnErr, if◌then◌else◌};
 ghost use Rattle.std.specs.FinMap.{empty, insert};
-ghost use Rattle.dt_pages.specs.Reading.{addresses};
+ghost use Rattle.dt_pages.specs.Reading.{Reading, addresses};
 ghost use Rattle.dt_pages.specs.Image.{look_up};
 ghost use Rattle.dt_pages.specs.Draft.{laid_over};
 
@@ -48,6 +48,8 @@ impl Draft {
     pub fn set(&mut self, at: u32, word: u64) -> Result<(), NoMemory>
         requires { at < addresses }
         ensures ok { OnOk result (self.new ≡ insert self.old at word) }
+        ensures reads { OnOk result ((base : Reading) (address : ℕ) → laid_over self.new base address
+            ≡ (if address == at then word else laid_over self.old base address)) }
         ensures err { OnErr result (self.new ≡ self.old) }
     {
         self.words.insert(at, word)?;

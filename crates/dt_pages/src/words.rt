@@ -23,7 +23,6 @@ pub trait Words {
         requires { at < addresses }
         ensures value { result ≡ look_up (image self.old) at }
         ensures image { image self.new ≡ image self.old }
-        ensures counted { cost self.old ≤ cost self.new }
         ensures cost { cost self.new ≤ cost self.old + COST }
         ensures kept { kept self.old self.new };
 

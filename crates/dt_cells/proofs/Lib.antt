@@ -1,0 +1,3 @@
+pub mod Serving
+pub mod Limits
+pub mod Reading

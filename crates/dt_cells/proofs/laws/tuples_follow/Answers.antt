@@ -1,0 +1,5 @@
+use Rattle.dt_cells.proofs.Serving.{tuples_after}
+use Rattle.dt_cells.proofs.laws.tuples_follow.Goals as goal
+
+pub returns : goal.returns
+returns c = tuples_after

@@ -1,0 +1,9 @@
+pub mod Regions
+pub mod Cell
+pub mod Held
+pub mod HeldLaws
+pub mod Kind
+pub mod Standing
+pub mod Find
+pub mod Heads
+pub mod Serving
