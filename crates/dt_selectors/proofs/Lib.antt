@@ -3,3 +3,4 @@ pub mod LawfulChanges
 pub mod Rows
 pub mod Texts
 pub mod LiveLists
+pub mod Undoing
