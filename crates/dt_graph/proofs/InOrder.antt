@@ -79,7 +79,7 @@ module _ {X K : Type 0} (key : X → K) (before same : K → K → Bool) (order 
         | false ↦ λ s. rw s (ap (λ ys. x ∷ ys) (without_none k xs (rw s at h)))
       ] refl
 
-  place_first : (d : X) (xs : List X) → BeforeAll (key d) xs → place key before same d xs ≡ d ∷ xs
+  pub place_first : (d : X) (xs : List X) → BeforeAll (key d) xs → place key before same d xs ≡ d ∷ xs
   place_first d [] all = refl
   place_first d (x ∷ xs) all = rw (All-head (λ y. IsTrue (before (key d) (key y))) x xs all) refl
 

@@ -171,16 +171,7 @@ impl ClassSet {
         ensures ok { OnOk result (out.new.items ≡ out.old.items ++ self.now) }
         ensures err { OnErr result (out.new.items ≡ out.old.items) }
     {
-        self.law();
-        let before = out.len();
-        let mut least = 0;
-        while let Some(class) = self.first_from(least) {
-            if out.push(class).is_err() {
-                out.truncate(before);
-                return Err(NoMemory);
-            }
-            least = class.number() as usize + 1;
-        }
+        out.extend_from_slice(self.classes().as_slice())?;
         Ok(())
     }
 

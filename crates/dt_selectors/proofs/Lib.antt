@@ -4,3 +4,4 @@ pub mod Rows
 pub mod Texts
 pub mod NameLists
 pub mod LiveLists
+pub mod Undoing

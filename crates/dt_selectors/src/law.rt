@@ -1,7 +1,7 @@
 ghost use Rattle.std.specs.Prelude.{ℕ, ◌<◌, ◌≤◌, List, []};
 ghost use Rattle.dt_selectors.specs.Selectors.{Selector, place_selector, without_selector};
 ghost use Rattle.dt_selectors.specs.Lawful.{LawfulSelector, LawfulSelectors};
-ghost use Rattle.dt_selectors.specs.Laws.{AddingSetsOneArity, DroppingUnsetsOneArity, KnownNamesStay, NewNamesAreLast, NumbersStay};
+ghost use Rattle.dt_selectors.specs.Laws.{AddingSetsOneArity, DroppingUnsetsOneArity, AddingIsUndone, DroppingIsUndone, KnownNamesStay, NewNamesAreLast, NumbersStay};
 
 use crate::names::Names;
 use crate::selectors::Selectors;
@@ -21,6 +21,13 @@ pub fn changes_keep_law()
 pub fn changes_touch_one_selector()
     ensures add { AddingSetsOneArity }
     ensures drop { DroppingUnsetsOneArity }
+{}
+
+/// A selector that comes or goes is undone by restoring its arity. It does nothing: a caller whose reasoning needs this
+/// calls it.
+pub fn changes_are_undone()
+    ensures add { AddingIsUndone }
+    ensures drop { DroppingIsUndone }
 {}
 
 /// A name keeps its number when others come, a new one gets the next number, and a known one changes nothing. It does
