@@ -1,5 +1,3 @@
-ghost use Rattle.std.specs.Prelude.{◌≡◌};
-
 use crate::graph_rounds::GraphPlan;
 use crate::shape::Shape;
 use crate::size::Size;
@@ -30,14 +28,10 @@ fn small(word: &str) -> Option<u16> {
 
 /// The shape of this word.
 fn shape_of(word: &str) -> Option<Shape> {
-    if word == "chain" {
-        return Some(Shape::Chain);
-    }
-    if word == "star" {
-        return Some(Shape::Star);
-    }
-    if word == "diamonds" {
-        return Some(Shape::Diamonds);
+    for shape in [Shape::Chain, Shape::Star, Shape::Diamonds] {
+        if word == shape.word() {
+            return Some(shape);
+        }
     }
     None
 }
