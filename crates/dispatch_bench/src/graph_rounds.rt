@@ -1,4 +1,3 @@
-ghost use Rattle.std.specs.Prelude.{◌≡◌, ◌↔◌, IsSome, IfSome};
 ghost use Rattle.dispatch_bench.specs.Size.{IsClassCount};
 
 use crate::draws::Draws;
@@ -12,7 +11,6 @@ use crate::shape::Shape;
 use crate::stopwatch::Stopwatch;
 use crate::table::Table;
 use dt_graph::{CLASSES, ClassGraph, ClassNo};
-use std::alloc::Global;
 use std::rt::Clock;
 
 /// How often a round makes each change.
@@ -34,10 +32,7 @@ pub struct GraphPlan {
 
 impl GraphPlan {
     /// This plan; `None` exactly where the number of classes isn't in range.
-    pub fn new(shape: Shape, classes: u16) -> Option<GraphPlan>
-        ensures when { IsSome result ↔ IsClassCount classes }
-        ensures value { IfSome result (λ plan. (plan.shape ≡ shape) × (plan.classes ≡ classes)) }
-    {
+    pub fn new(shape: Shape, classes: u16) -> Option<GraphPlan> {
         if !(2..=CLASSES).contains(&classes) {
             return None;
         }
@@ -229,15 +224,38 @@ fn time_round(
     Ok(())
 }
 
-/// Times a graph of this shape with so many classes.
-pub fn time_graph<R: Clock + AllocGlobal>(rt: &R, plan: GraphPlan) -> Result<Table, Fault> {
-    let alloc = rt.alloc();
-    let mut graph = plan.shape.graph(alloc, plan.classes)?;
-    let pairs = random_pairs(alloc, &mut Draws::new(1), plan.classes)?;
-    let mut below = Vec::with_capacity(alloc, usize::from(plan.classes))?;
-    let mut table = Table::new(alloc);
+/// Times the rounds of a graph.
+fn time_rounds<R: Clock + AllocGlobal>(
+    rt: &R,
+    table: &mut Table,
+    graph: &mut ClassGraph,
+    plan: GraphPlan,
+    pairs: &Vec<(ClassNo, ClassNo)>,
+) -> Result<(), Fault> {
+    let mut below = Vec::with_capacity(rt.alloc(), usize::from(plan.classes))?;
     for _ in 0..ROUNDS {
-        time_round(rt, &mut table, &mut graph, plan, &pairs, &mut below)?;
+        time_round(rt, table, graph, plan, pairs, &mut below)?;
     }
-    Ok(table)
+    Ok(())
+}
+
+/// Draws pairs of classes, and times a graph.
+fn time_with_pairs<R: Clock + AllocGlobal>(
+    rt: &R,
+    table: &mut Table,
+    graph: &mut ClassGraph,
+    plan: GraphPlan,
+) -> Result<(), Fault> {
+    let pairs = random_pairs(rt.alloc(), &mut Draws::new(1), plan.classes)?;
+    time_rounds(rt, table, graph, plan, &pairs)
+}
+
+/// Times a graph of this shape with so many classes.
+pub fn time_graph<R: Clock + AllocGlobal>(
+    rt: &R,
+    table: &mut Table,
+    plan: GraphPlan,
+) -> Result<(), Fault> {
+    let mut graph = plan.shape.graph(rt.alloc(), plan.classes)?;
+    time_with_pairs(rt, table, &mut graph, plan)
 }

@@ -157,16 +157,29 @@ fn time_calls(
     watch.stop(rt, table, Metric::HitsOfTwo, u32::from(count).max(1))
 }
 
+/// Times a round.
+fn time_round(
+    rt: &impl Clock,
+    table: &mut Table,
+    program: &mut Program,
+    count: u16,
+) -> Result<(), Fault> {
+    let mut mix = Mix::new();
+    time_calls(rt, table, program, count, &mut mix)?;
+    time_definition(rt, table, program, count, &mut mix)?;
+    table.put(Metric::Mix, u64::from(mix.number()))?;
+    Ok(())
+}
+
 /// Times a selector with so many definitions, at most [`MOST`].
-pub fn time_selector<R: Clock + AllocGlobal>(rt: &R, count: u16) -> Result<Table, Fault> {
-    let alloc = rt.alloc();
-    let mut program = program(alloc, count)?;
-    let mut table = Table::new(alloc);
+pub fn time_selector<R: Clock + AllocGlobal>(
+    rt: &R,
+    table: &mut Table,
+    count: u16,
+) -> Result<(), Fault> {
+    let mut program = program(rt.alloc(), count)?;
     for _ in 0..ROUNDS {
-        let mut mix = Mix::new();
-        time_calls(rt, &mut table, &program, count, &mut mix)?;
-        time_definition(rt, &mut table, &mut program, count, &mut mix)?;
-        table.put(Metric::Mix, u64::from(mix.number()))?;
+        time_round(rt, table, &mut program, count)?;
     }
-    Ok(table)
+    Ok(())
 }

@@ -1,5 +1,3 @@
-ghost use Rattle.std.specs.Prelude.{◌≡◌};
-
 use crate::graph_rounds::GraphPlan;
 use crate::selector_rounds::MOST;
 use crate::shape::Shape;
@@ -33,14 +31,10 @@ fn small(word: &str) -> Option<u16> {
 
 /// The shape of this word.
 fn shape_of(word: &str) -> Option<Shape> {
-    if word == "chain" {
-        return Some(Shape::Chain);
-    }
-    if word == "star" {
-        return Some(Shape::Star);
-    }
-    if word == "diamonds" {
-        return Some(Shape::Diamonds);
+    for shape in [Shape::Chain, Shape::Star, Shape::Diamonds] {
+        if word == shape.word() {
+            return Some(shape);
+        }
     }
     None
 }
