@@ -3,6 +3,7 @@ use Rattle.std.specs.Prelude.{◌≡◌, ℕ, ◌+◌, ◌-◌, ◌*◌, [], ◌
 use Rattle.std.proofs.Common.{arith, inl, inr}
 use Rattle.dt_pages.specs.Reading.{Pages, follow, reading, Reaches}
 use Rattle.dt_pages.specs.Image.{place}
+use Rattle.dt_pages.specs.Reach.{met, each_once}
 use Rattle.dt_pages.specs.Laws.{SamePage}
 use Rattle.dt_pages.specs.ThreeWords.{pages_with}
 
@@ -64,6 +65,16 @@ a_word_past_the_page_leads_nowhere (inl is) = let same : ◌≡◌ {A = ℕ} 0 1
 a_word_past_the_page_leads_nowhere (inr (at, below, inl is)) = absurd (omega (arith, below, is))
 a_word_past_the_page_leads_nowhere (inr (at, below, inr (next, under, inl is))) = absurd (omega (arith, under, is))
 a_word_past_the_page_leads_nowhere (inr (at, below, inr (next, under, inr way))) = way.2
+
+-- ---- reach as a list
+
+-- over one level a page is met alone, and no page is met twice in the list
+one_page_is_met : met rising 1 5 ≡ 5 ∷ []
+unfolding met
+one_page_is_met = refl
+
+the_last_of_each_stays : each_once (3 ∷ 1 ∷ 3 ∷ 0 ∷ 1 ∷ []) ≡ 3 ∷ 0 ∷ 1 ∷ []
+the_last_of_each_stays = refl
 
 -- ---- the same page
 
