@@ -1,7 +1,7 @@
 -- Readings, reach and places, worked out.
 use Rattle.std.specs.Prelude.{◌≡◌, ℕ, ◌+◌, ◌-◌, ◌*◌, [], ◌∷◌, refl}
 use Rattle.std.proofs.Common.{arith, inl, inr}
-use Rattle.dt_pages.specs.Reading.{Pages, follow, reading, Reaches}
+use Rattle.dt_pages.specs.Reading.{Pages, reading, Reaches}
 use Rattle.dt_pages.specs.Image.{place}
 use Rattle.dt_pages.specs.Reach.{met, each_once}
 use Rattle.dt_pages.specs.Laws.{SamePage}
@@ -22,12 +22,6 @@ the_last_address = refl
 
 past_the_last_address : reading telling 1 134217728 ≡ 0
 past_the_last_address = refl
-
-one_level : follow telling 1 4 (5 * 512 + 7) ≡ 4007
-one_level = refl
-
-no_level : follow telling 0 4 7 ≡ 4
-no_level = refl
 
 -- ---- reach
 
