@@ -4,7 +4,7 @@ use Rattle.std.proofs.lemmas.Bool.{or_cases, or_left, or_right, or_parts, or_fro
 use Rattle.std.proofs.lemmas.List.Elements.{All-head, All-tail}
 use Rattle.dt_graph.specs.Graph.{has_number}
 use Rattle.dt_graph.specs.Lawful.{AscendingNumbers}
-use Rattle.dt_graph.specs.ClassSet.{first_from}
+use Rattle.dt_graph.specs.FirstFrom.{first_from}
 use Rattle.dt_graph.proofs.Ascending.{first_is_lowest}
 
 -- two truth values that follow from each other are equal
