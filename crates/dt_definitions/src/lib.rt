@@ -6,11 +6,14 @@ mod apply_batch;
 mod batch;
 mod causes;
 mod defined;
+mod definition_key;
 mod definition_table;
 mod edit;
 mod kept;
 mod law;
 mod limits;
+mod naming;
+mod naming_index;
 mod parents;
 mod parts;
 mod program;
@@ -28,6 +31,7 @@ pub use answer_law::{
 };
 pub use batch::Batch;
 pub use defined::Defined;
+pub use definition_key::DefinitionKey;
 pub use dt_graph::{CLASSES, ClassGraph, ClassNo, GraphFault, NoMemory, PARENTS};
 pub use dt_selectors::{
     Arity, BODIES, BodyNo, NAMES, NameFault, Names, SELECTORS, SelNo, SelectorFault,
