@@ -5,6 +5,8 @@ pub mod DefinitionOrder
 pub mod Placing
 pub mod DefinedOnce
 pub mod DefinitionCounts
+pub mod Keys
+pub mod NamingLists
 pub mod Rows
 pub mod TableChanges
 pub mod Steps

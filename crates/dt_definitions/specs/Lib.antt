@@ -8,6 +8,7 @@ pub mod Lawful
 pub mod Laws
 pub mod Memory
 pub mod MemoryLaws
+pub mod Naming
 pub mod OrderExamples
 pub mod Parts
 pub mod Place

@@ -6,12 +6,15 @@ mod apply_batch;
 mod batch;
 mod causes;
 mod defined;
+mod definition_key;
 mod definition_table;
 mod edit;
 mod kept;
 mod law;
 mod laws;
 mod limits;
+mod naming;
+mod naming_index;
 mod parents;
 mod parts;
 mod program;
@@ -29,6 +32,7 @@ pub use answer_law::{
 };
 pub use batch::Batch;
 pub use defined::Defined;
+pub use definition_key::DefinitionKey;
 pub use dt_graph::{CLASSES, ClassGraph, ClassNo, GraphFault, NoMemory, PARENTS};
 pub use dt_selectors::{
     Arity, BODIES, BodyNo, NAMES, NameFault, Names, SELECTORS, SelNo, SelectorFault,

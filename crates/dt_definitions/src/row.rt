@@ -28,7 +28,7 @@ impl Model for Row {
 }
 
 /// Whether the first classes stand before the second: by the first place that differs.
-fn is_before(first: &[ClassNo], second: &[ClassNo]) -> bool
+pub(crate) fn is_before(first: &[ClassNo], second: &[ClassNo]) -> bool
     ensures { result ≡ are_classes_before first.now second.now }
 {
     match (first, second) {
@@ -40,7 +40,7 @@ fn is_before(first: &[ClassNo], second: &[ClassNo]) -> bool
 }
 
 /// Whether the two are the same.
-fn is_same(first: &[ClassNo], second: &[ClassNo]) -> bool
+pub(crate) fn is_same(first: &[ClassNo], second: &[ClassNo]) -> bool
     ensures { result ≡ same_classes first.now second.now }
 {
     first == second
