@@ -17,7 +17,7 @@ use Rattle.dt_scratch.proofs.SameAnswers.{same_answers}
 use Rattle.dt_scratch.proofs.Unmet.{unmet_stay, unmet_above, same_meet}
 
 -- a test that holds of all finds nothing in the empty list alone
-none_there : (test : Definition → Bool) (ds : List Definition) → ((d : Definition) → test d ≡ true) →
+pub none_there : (test : Definition → Bool) (ds : List Definition) → ((d : Definition) → test d ≡ true) →
     list_any test ds ≡ false → ds ≡ []
 none_there test [] all none = refl
 none_there test (d ∷ ds) all none = absurd (false≢true (sym (or_parts (test d) (list_any test ds) none).0 ∙ all d))
