@@ -9,3 +9,9 @@ pub mod Script
 pub mod ScriptExamples
 pub mod ScriptOf
 pub mod ScriptOfExamples
+pub mod Cut
+pub mod Words
+pub mod Keyword
+pub mod Numbering
+pub mod Written
+pub mod WrittenLine
