@@ -1,0 +1,5 @@
+pub mod Parts
+pub mod WrittenTexts
+pub mod Malformed
+pub mod NumbersStay
+pub mod HandedOn

@@ -1,0 +1,17 @@
+pub mod NameBook
+pub mod Word
+pub mod Line
+pub mod LineExamples
+pub mod Lines
+pub mod Place
+pub mod PlaceExamples
+pub mod Script
+pub mod ScriptExamples
+pub mod ScriptOf
+pub mod ScriptOfExamples
+pub mod Cut
+pub mod Words
+pub mod Keyword
+pub mod Numbering
+pub mod Written
+pub mod WrittenLine

@@ -1,0 +1,18 @@
+//! Scripts: lines of text, what each means, where each may stand, and the names that they number.
+#![tactic(auto)]
+
+mod cut;
+mod keyword;
+mod limits;
+mod line;
+mod name_book;
+mod numbering;
+mod script_fault;
+mod words;
+mod written;
+mod written_line;
+
+pub use limits::SCRIPT_BYTES;
+pub use line::{CallerLine, Line};
+pub use name_book::NameBook;
+pub use script_fault::ScriptFault;
