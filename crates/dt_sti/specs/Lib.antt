@@ -1,0 +1,3 @@
+pub mod Sti
+pub mod StiLaws
+pub mod StiStanding
