@@ -1,7 +1,7 @@
 #!/bin/sh
 # Each way in which the built program ends, with its status and what it put to standard output: that the words, standard
 # input, standard output and the exit status are those of the process is in no contract. The program is the one named; else
-# that of these sources, which is built where it isn't yet.
+# that of these sources, which is built where it isn't yet. The last line tells how many passed.
 set -eu
 cd "$(dirname "$0")/.."
 folder=$(mktemp -d)
@@ -54,6 +54,7 @@ ends "no word" 2 "$folder/usage" "$folder/empty"
 ends "a word too few" 2 "$folder/usage" "$folder/empty" run --table
 ends "a word too many" 2 "$folder/usage" "$folder/empty" run --table sti sti
 ends "an empty word" 2 "$folder/usage" "$folder/empty" run --table ""
+ends "another table" 2 "$folder/usage" "$folder/empty" run --table mrd
 ends "another order" 2 "$folder/usage" "$folder/empty" --table run sti
 ends "a word that is no text" 2 "$folder/usage" "$folder/empty" run --table sti "$(printf '\377')"
 ends "no line feed at the end" 3 "$folder/fault_script" "$folder/cut" run --table sti
@@ -61,10 +62,20 @@ ends "no byte" 3 "$folder/fault_script" /dev/null run --table sti
 ends "bytes without an end" 3 "$folder/fault_script" /dev/zero run --table sti
 ends "an input that can't be read" 4 "$folder/fault_read" / run --table sti
 
+# Each beginning of a script that isn't the whole is no script.
+whole=examples/override.dispatch
+length=$(wc -c <"$whole")
+place=0
+while [ "$place" -lt "$length" ]; do
+    head -c "$place" "$whole" >"$folder/beginning"
+    ends "the first $place bytes of $whole" 3 "$folder/fault_script" "$folder/beginning" run --table sti
+    place=$((place + 1))
+done
+
 # What a device takes that is always full can't be looked at.
 status=0
 "$program" run --table sti <"$folder/empty" >/dev/full || status=$?
 ended "a full device" "$status" 5 "$folder/no_text" "$folder/no_text"
 
-echo "endings: $passed passed, $failed failed"
+echo "$passed passed, $failed failed"
 [ "$failed" = 0 ]

@@ -2,7 +2,6 @@
 use Rattle.std.proofs.Common.{◌≡◌, ℕ, ◌+◌, ◌*◌, ◌/◌, ◌%◌, refl}
 use Rattle.std.proofs.Math.Nat.{mod-add-mod}
 use Rattle.dispatch_bench.specs.Draw.{next_state, number_of}
-use Rattle.dispatch_bench.specs.Work.{mixed}
 
 pub state_wraps : (state : ℕ) →
     (state * 6364136223846793005 % 18446744073709551616 + 1442695040888963407) % 18446744073709551616 ≡ next_state state
@@ -12,7 +11,3 @@ state_wraps state = mod-add-mod (state * 6364136223846793005) 184467440737095516
 pub number_of_shifted : (state bound : ℕ) → state / 8589934592 % bound ≡ number_of state bound
 unfolding number_of
 number_of_shifted state bound = refl
-
-pub mix_wraps : (mix code : ℕ) → (mix * 31 % 4294967296 + code) % 4294967296 ≡ mixed mix code
-unfolding mixed
-mix_wraps mix code = mod-add-mod (mix * 31) 4294967296 code

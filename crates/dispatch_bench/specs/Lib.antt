@@ -1,5 +1,3 @@
 pub mod Size
 pub mod Draw
 pub mod Generator
-pub mod Work
-pub mod Figures

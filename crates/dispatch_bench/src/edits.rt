@@ -53,6 +53,28 @@ fn body_at(program: &Program, selector: SelNo, classes: &Tuple) -> Option<BodyNo
     None
 }
 
+/// What undoes a definition: the one that it replaces, or that it goes.
+fn undo_of_define(program: &Program, selector: SelNo, classes: Tuple) -> Edit {
+    match body_at(program, selector, &classes) {
+        Some(body) => Edit::Define {
+            selector,
+            classes,
+            body,
+        },
+        None => Edit::Undefine { selector, classes },
+    }
+}
+
+/// What undoes the end of a definition, if there is one.
+fn undo_of_undefine(program: &Program, selector: SelNo, classes: Tuple) -> Option<Edit> {
+    let body = body_at(program, selector, &classes)?;
+    Some(Edit::Define {
+        selector,
+        classes,
+        body,
+    })
+}
+
 /// The edit that undoes this one, of those that are tried.
 fn undo_of(program: &Program, edit: &Edit) -> Option<Edit> {
     match edit {
@@ -69,24 +91,28 @@ fn undo_of(program: &Program, edit: &Edit) -> Option<Edit> {
             selector,
             classes,
             ..
-        } => Some(match body_at(program, *selector, classes) {
-            Some(body) => Edit::Define {
-                selector: *selector,
-                classes: *classes,
-                body,
-            },
-            None => Edit::Undefine {
-                selector: *selector,
-                classes: *classes,
-            },
-        }),
-        Edit::Undefine { selector, classes } => Some(Edit::Define {
-            selector: *selector,
-            classes: *classes,
-            body: body_at(program, *selector, classes)?,
-        }),
+        } => Some(undo_of_define(program, *selector, *classes)),
+        Edit::Undefine { selector, classes } => undo_of_undefine(program, *selector, *classes),
         _ => None,
     }
+}
+
+/// Puts an edit, and what undoes it, behind the others.
+fn keep(trial: &mut Trial, edit: Edit, undo: Edit) -> Result<(), NoMemory> {
+    trial.edits.push(edit)?;
+    trial.undo.push(undo)?;
+    Ok(())
+}
+
+/// Keeps the edit where it is accepted.
+fn keep_if_accepted(program: &mut Program, trial: &mut Trial, edit: Edit) -> Result<(), NoMemory> {
+    let Some(undo) = undo_of(program, &edit) else {
+        return Ok(());
+    };
+    if try_edit(program, &edit)? {
+        keep(trial, edit, undo)?;
+    }
+    Ok(())
 }
 
 /// Those of the edits that are accepted one after another. The program is left as they found it.
@@ -100,13 +126,7 @@ fn keep_accepted(
         undo: Vec::new(alloc),
     };
     for edit in edits {
-        let Some(undo) = undo_of(program, &edit) else {
-            continue;
-        };
-        if try_edit(program, &edit)? {
-            trial.edits.push(edit)?;
-            trial.undo.push(undo)?;
-        }
+        keep_if_accepted(program, &mut trial, edit)?;
     }
     trial.undo.reverse();
     apply_all(program, &trial.undo)?;
@@ -213,16 +233,19 @@ pub fn new_classes(
     keep_accepted(alloc, program, edits)
 }
 
-/// A batch of definitions that are there already, and of an edit that is refused: class 0 is live.
-pub fn refused_batch(
+/// A batch of so many definitions that are drawn, each by the body that it adds to.
+fn drawn_batch(
     alloc: Global,
     draws: &mut Draws,
     size: Size,
     batches: &[Batch],
+    count: u16,
+    added: u16,
 ) -> Result<Batch, NoMemory> {
     let mut batch = Batch::new(alloc);
-    for _ in 1..BATCH {
+    for _ in 0..count {
         if let Some((selector, classes, body)) = draw_defined(draws, size, batches) {
+            let body = BodyNo::new(body.number().wrapping_add(added));
             put(
                 &mut batch,
                 Edit::Define {
@@ -233,6 +256,27 @@ pub fn refused_batch(
             )?;
         }
     }
+    Ok(batch)
+}
+
+/// A batch of definitions that are there already, each by another body.
+pub fn redefining_batch(
+    alloc: Global,
+    draws: &mut Draws,
+    size: Size,
+    batches: &[Batch],
+) -> Result<Batch, NoMemory> {
+    drawn_batch(alloc, draws, size, batches, BATCH, definition_count(size))
+}
+
+/// A batch of definitions that are there already, and of an edit that is refused: class 0 is live.
+pub fn refused_batch(
+    alloc: Global,
+    draws: &mut Draws,
+    size: Size,
+    batches: &[Batch],
+) -> Result<Batch, NoMemory> {
+    let mut batch = drawn_batch(alloc, draws, size, batches, BATCH - 1, 0)?;
     let class = ClassNo::default();
     let parents = Parents::new(alloc, &[])?;
     put(&mut batch, Edit::AddClass { class, parents })?;

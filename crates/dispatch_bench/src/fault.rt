@@ -1,6 +1,3 @@
-ghost use Rattle.std.specs.Prelude.{◌≡◌};
-ghost use Rattle.dispatch_bench.specs.declared.fault.Fault.TheVariants.{NoMemory};
-
 use dt_graph::NoMemory;
 use std::alloc::{AllocError, AllocFailed};
 use std::io;
@@ -15,24 +12,18 @@ pub enum Fault {
 }
 
 impl From<NoMemory> for Fault {
-    ghost from_gives = { λ _ fault. fault ≡ NoMemory };
-
     fn from(_: NoMemory) -> Fault {
         Fault::NoMemory
     }
 }
 
 impl From<AllocError> for Fault {
-    ghost from_gives = { λ _ fault. fault ≡ NoMemory };
-
     fn from(_: AllocError) -> Fault {
         Fault::NoMemory
     }
 }
 
 impl<T: Drop> From<AllocFailed<T>> for Fault {
-    ghost from_gives = { λ _ fault. fault ≡ NoMemory };
-
     fn from(_: AllocFailed<T>) -> Fault {
         Fault::NoMemory
     }

@@ -1,7 +1,4 @@
-ghost use Rattle.std.specs.Prelude.{◌≡◌, ◌*◌, ◌-◌, ◌/◌, ◌<◌, ◌^◌, min, length, slice_index, IsPermutation, IsSorted};
-ghost use Rattle.std.specs.Duration.{as_nanos};
-ghost use Rattle.std.specs.Ordering.{nat_cmp};
-ghost use Rattle.dispatch_bench.specs.Figures.{cost};
+ghost use Rattle.std.specs.Prelude.{◌<◌, length};
 
 use std::fmt;
 use std::time::Duration;
@@ -22,19 +19,15 @@ impl fmt::Display for Thousandths {
 }
 
 /// What so much time is for each of so many operations, in thousandths of a unit of so many nanoseconds.
-#[tactic(auto, unfolding(crate::specs::Figures::cost))]
 pub fn cost(nanoseconds: u64, unit: u32, operations: u32) -> u64
     requires some_time { 0 < unit }
     requires some_operation { 0 < operations }
-    ensures { result ≡ cost nanoseconds unit operations }
 {
     nanoseconds.saturating_mul(1000) / (u64::from(unit) * u64::from(operations))
 }
 
 /// A time in nanoseconds, or the greatest number where it is longer.
-pub fn nanoseconds(time: Duration) -> u64
-    ensures { result ≡ min (as_nanos time) (2 ^ 64 - 1) }
-{
+pub fn nanoseconds(time: Duration) -> u64 {
     u64::try_from(time.as_nanos()).unwrap_or(u64::MAX)
 }
 
@@ -52,11 +45,6 @@ pub struct Summary {
 /// Sorts the figures, and sums them up.
 pub fn sum_up(figures: &mut [u64]) -> Summary
     requires { 0 < length figures.old }
-    ensures same { IsPermutation figures.old figures.new }
-    ensures sorted { IsSorted nat_cmp figures.new }
-    ensures median { result.median ≡ slice_index figures.new (length figures.new / 2) }
-    ensures least { result.least ≡ slice_index figures.new 0 }
-    ensures greatest { result.greatest ≡ slice_index figures.new (length figures.new - 1) }
 {
     figures.sort_unstable();
     Summary {

@@ -13,11 +13,13 @@ use std::alloc::Global;
 /// How many edits a batch of definitions has, but for the last batch.
 pub const BATCH: u16 = 500;
 
-/// Puts the edit last.
+/// Puts the edit last. A batch that has as many as it may have wants memory.
 pub fn put(batch: &mut Batch, edit: Edit) -> Result<(), NoMemory>
-    requires { length batch.old < 2 ^ 31 }
     ensures { OnOk result (batch.new ≡ batch.old ++ edit ∷ []) }
 {
+    if batch.len() >= 1 << 31 {
+        return Err(NoMemory);
+    }
     match batch.push(edit) {
         Ok(()) => Ok(()),
         Err(_) => Err(NoMemory),

@@ -1,4 +1,3 @@
-ghost use Rattle.std.specs.Prelude.{◌≡◌, ◌↔◌, IsSome, IfSome};
 ghost use Rattle.dispatch_bench.specs.Size.{IsClassCount};
 
 use crate::draws::Draws;
@@ -12,7 +11,6 @@ use crate::shape::Shape;
 use crate::stopwatch::Stopwatch;
 use crate::table::Table;
 use dt_graph::{CLASSES, ClassGraph, ClassNo};
-use std::alloc::Global;
 use std::rt::Clock;
 
 /// How often a round makes each change.
@@ -34,10 +32,7 @@ pub struct GraphPlan {
 
 impl GraphPlan {
     /// This plan; `None` exactly where the number of classes isn't in range.
-    pub fn new(shape: Shape, classes: u16) -> Option<GraphPlan>
-        ensures when { IsSome result ↔ IsClassCount classes }
-        ensures value { IfSome result (λ plan. (plan.shape ≡ shape) × (plan.classes ≡ classes)) }
-    {
+    pub fn new(shape: Shape, classes: u16) -> Option<GraphPlan> {
         if !(2..=CLASSES).contains(&classes) {
             return None;
         }
@@ -55,16 +50,6 @@ enum Change {
 }
 
 impl Change {
-    /// What is measured by the change.
-    fn metric(self) -> Metric {
-        match self {
-            Change::Link { .. } => Metric::Link,
-            Change::Unlink { .. } => Metric::Unlink,
-            Change::Add { .. } => Metric::Add,
-            Change::Drop { .. } => Metric::Drop,
-        }
-    }
-
     /// Makes the change, and tells whether it was accepted.
     fn make(self, graph: &mut ClassGraph, shape: Shape) -> bool {
         match self {
@@ -91,28 +76,72 @@ fn time_change(
     Ok(time)
 }
 
+/// A change, and what is measured by it.
+#[derive(Clone, Copy, Debug)]
+struct Timed {
+    change: Change,
+    metric: Metric,
+}
+
+/// A change and the one that undoes it.
+#[derive(Clone, Copy, Debug)]
+struct Pair {
+    there: Timed,
+    back: Timed,
+}
+
 /// Times a change and the one that undoes it, in turn.
 fn time_changes(
     rt: &impl Clock,
     table: &mut Table,
     graph: &mut ClassGraph,
     shape: Shape,
-    changes: (Change, Change),
+    pair: Pair,
     mix: &mut Mix,
 ) -> Result<(), Fault> {
-    let (there, back) = changes;
+    let Pair { there, back } = pair;
     let mut times: (u64, u64) = (0, 0);
     for _ in 0..CHANGES {
         times.0 = times
             .0
-            .saturating_add(time_change(rt, graph, shape, there, mix)?);
+            .saturating_add(time_change(rt, graph, shape, there.change, mix)?);
         times.1 = times
             .1
-            .saturating_add(time_change(rt, graph, shape, back, mix)?);
+            .saturating_add(time_change(rt, graph, shape, back.change, mix)?);
     }
-    let unit = there.metric().unit().nanoseconds();
-    table.put(there.metric(), cost(times.0, unit, CHANGES))?;
-    table.put(back.metric(), cost(times.1, unit, CHANGES))?;
+    let unit = there.metric.unit().nanoseconds();
+    table.put(there.metric, cost(times.0, unit, CHANGES))?;
+    table.put(back.metric, cost(times.1, unit, CHANGES))?;
+    Ok(())
+}
+
+/// Times the class in the middle of a chain: the link to it goes, untimed; then it goes and comes.
+fn time_middle(
+    rt: &impl Clock,
+    table: &mut Table,
+    graph: &mut ClassGraph,
+    plan: GraphPlan,
+    mix: &mut Mix,
+) -> Result<(), Fault> {
+    if plan.shape != Shape::Chain {
+        return Ok(());
+    }
+    let Some((class, parent)) = plan.shape.middle_link(plan.classes) else {
+        return Ok(());
+    };
+    let pair = Pair {
+        there: Timed {
+            change: Change::Drop { class: parent },
+            metric: Metric::DropMiddle,
+        },
+        back: Timed {
+            change: Change::Add { class: parent },
+            metric: Metric::AddMiddle,
+        },
+    };
+    Change::Unlink { class, parent }.make(graph, plan.shape);
+    time_changes(rt, table, graph, plan.shape, pair, mix)?;
+    Change::Link { class, parent }.make(graph, plan.shape);
     Ok(())
 }
 
@@ -135,19 +164,42 @@ fn time_descendants(
     Ok(())
 }
 
-/// The changes that are tried: a link in the middle, if there is one, and the last class.
-fn planned_changes(plan: GraphPlan) -> (Option<(Change, Change)>, (Change, Change)) {
-    let link = plan.shape.middle_link(plan.classes).map(|(class, parent)| {
-        let link = Change::Link { class, parent };
-        let unlink = Change::Unlink { class, parent };
-        if plan.shape == Shape::Star {
-            (link, unlink)
-        } else {
-            (unlink, link)
-        }
-    });
+/// The link in the middle that goes and comes, if there is one; in a star it comes and goes.
+fn middle_pair(plan: GraphPlan) -> Option<Pair> {
+    let (class, parent) = plan.shape.middle_link(plan.classes)?;
+    let link = Timed {
+        change: Change::Link { class, parent },
+        metric: Metric::Link,
+    };
+    let unlink = Timed {
+        change: Change::Unlink { class, parent },
+        metric: Metric::Unlink,
+    };
+    if plan.shape == Shape::Star {
+        return Some(Pair {
+            there: link,
+            back: unlink,
+        });
+    }
+    Some(Pair {
+        there: unlink,
+        back: link,
+    })
+}
+
+/// The last class, which goes and comes.
+fn last_pair(plan: GraphPlan) -> Pair {
     let class = ClassNo::new(plan.classes - 1).unwrap();
-    (link, (Change::Drop { class }, Change::Add { class }))
+    Pair {
+        there: Timed {
+            change: Change::Drop { class },
+            metric: Metric::Drop,
+        },
+        back: Timed {
+            change: Change::Add { class },
+            metric: Metric::Add,
+        },
+    }
 }
 
 /// Times a round.
@@ -161,26 +213,49 @@ fn time_round(
 ) -> Result<(), Fault> {
     let mut mix = Mix::new();
     let middle = ClassNo::new(plan.classes / 2).unwrap();
-    let (link, last) = planned_changes(plan);
     time_pairs(rt, table, graph, pairs, &mut mix)?;
-    if let Some(link) = link {
-        time_changes(rt, table, graph, plan.shape, link, &mut mix)?;
+    if let Some(pair) = middle_pair(plan) {
+        time_changes(rt, table, graph, plan.shape, pair, &mut mix)?;
     }
-    time_changes(rt, table, graph, plan.shape, last, &mut mix)?;
+    time_changes(rt, table, graph, plan.shape, last_pair(plan), &mut mix)?;
+    time_middle(rt, table, graph, plan, &mut mix)?;
     time_descendants(rt, table, graph, middle, below, &mut mix)?;
     table.put(Metric::Mix, u64::from(mix.number()))?;
     Ok(())
 }
 
-/// Times a graph of this shape with so many classes.
-pub fn time_graph<R: Clock + AllocGlobal>(rt: &R, plan: GraphPlan) -> Result<Table, Fault> {
-    let alloc = rt.alloc();
-    let mut graph = plan.shape.graph(alloc, plan.classes)?;
-    let pairs = random_pairs(alloc, &mut Draws::new(1), plan.classes)?;
-    let mut below = Vec::with_capacity(alloc, usize::from(plan.classes))?;
-    let mut table = Table::new(alloc);
+/// Times the rounds of a graph.
+fn time_rounds<R: Clock + AllocGlobal>(
+    rt: &R,
+    table: &mut Table,
+    graph: &mut ClassGraph,
+    plan: GraphPlan,
+    pairs: &Vec<(ClassNo, ClassNo)>,
+) -> Result<(), Fault> {
+    let mut below = Vec::with_capacity(rt.alloc(), usize::from(plan.classes))?;
     for _ in 0..ROUNDS {
-        time_round(rt, &mut table, &mut graph, plan, &pairs, &mut below)?;
+        time_round(rt, table, graph, plan, pairs, &mut below)?;
     }
-    Ok(table)
+    Ok(())
+}
+
+/// Draws pairs of classes, and times a graph.
+fn time_with_pairs<R: Clock + AllocGlobal>(
+    rt: &R,
+    table: &mut Table,
+    graph: &mut ClassGraph,
+    plan: GraphPlan,
+) -> Result<(), Fault> {
+    let pairs = random_pairs(rt.alloc(), &mut Draws::new(1), plan.classes)?;
+    time_rounds(rt, table, graph, plan, &pairs)
+}
+
+/// Times a graph of this shape with so many classes.
+pub fn time_graph<R: Clock + AllocGlobal>(
+    rt: &R,
+    table: &mut Table,
+    plan: GraphPlan,
+) -> Result<(), Fault> {
+    let mut graph = plan.shape.graph(rt.alloc(), plan.classes)?;
+    time_with_pairs(rt, table, &mut graph, plan)
 }

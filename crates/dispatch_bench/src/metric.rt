@@ -1,5 +1,4 @@
-ghost use Rattle.std.specs.Prelude.{◌≡◌, ◌<◌};
-ghost use Rattle.dispatch_bench.specs.Figures.{nanoseconds_of};
+ghost use Rattle.std.specs.Prelude.{◌<◌};
 
 /// The unit of a metric's figures.
 #[derive(Clone, Copy, Debug, PartialEq, Eq)]
@@ -30,8 +29,7 @@ impl Unit {
 
     /// How many nanoseconds a unit of time is; 1 where it is no unit of time.
     pub fn nanoseconds(self) -> u32
-        ensures value { result ≡ nanoseconds_of self }
-        ensures some { 0 < result }
+        ensures { 0 < result }
     {
         match self {
             Unit::Microseconds => 1_000,
@@ -68,6 +66,10 @@ pub enum Metric {
     DropEdit,
     /// A batch of which the last edit is refused.
     RefusedBatch,
+    /// A batch that is accepted, and then undone.
+    TriedBatch,
+    /// A copy of the program.
+    Copy,
     /// The program is made by its batches.
     Load,
     /// The memory of the process after the first load.
@@ -80,6 +82,10 @@ pub enum Metric {
     Add,
     /// A class of a graph goes.
     Drop,
+    /// A class in the middle of a chain goes, where nothing is below it any more.
+    DropMiddle,
+    /// That class, with its parent.
+    AddMiddle,
     /// The classes below a class.
     Descendants,
     /// What the answers of a round come to, the same in each round.
@@ -102,12 +108,16 @@ impl Metric {
             Metric::ClassEdit => "edit class",
             Metric::DropEdit => "edit drop",
             Metric::RefusedBatch => "batch of 500 refused at its last",
+            Metric::TriedBatch => "batch of 500 tried and undone",
+            Metric::Copy => "copy",
             Metric::Load => "load",
             Metric::Memory => "memory after load",
             Metric::Link => "link",
             Metric::Unlink => "unlink",
             Metric::Add => "add",
             Metric::Drop => "drop",
+            Metric::DropMiddle => "drop in the middle",
+            Metric::AddMiddle => "add in the middle",
             Metric::Descendants => "descendants",
             Metric::Mix => "mix",
         }

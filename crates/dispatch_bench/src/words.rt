@@ -1,6 +1,5 @@
-ghost use Rattle.std.specs.Prelude.{◌≡◌};
-
 use crate::graph_rounds::GraphPlan;
+use crate::selector_rounds::MOST;
 use crate::shape::Shape;
 use crate::size::Size;
 
@@ -13,6 +12,8 @@ pub enum Command {
     Program { number: u64, size: Size },
     /// The figures of a graph.
     Graph { plan: GraphPlan },
+    /// The figures of a selector with so many definitions, at most [`MOST`].
+    Selector { definitions: u16 },
 }
 
 /// The number that the word is in decimal digits.
@@ -30,14 +31,10 @@ fn small(word: &str) -> Option<u16> {
 
 /// The shape of this word.
 fn shape_of(word: &str) -> Option<Shape> {
-    if word == "chain" {
-        return Some(Shape::Chain);
-    }
-    if word == "star" {
-        return Some(Shape::Star);
-    }
-    if word == "diamonds" {
-        return Some(Shape::Diamonds);
+    for shape in [Shape::Chain, Shape::Star, Shape::Diamonds] {
+        if word == shape.word() {
+            return Some(shape);
+        }
     }
     None
 }
@@ -50,6 +47,13 @@ pub fn read_command(words: &[String]) -> Option<Command> {
             let shape = shape_of(shape_word.as_str())?;
             let plan = GraphPlan::new(shape, small(classes.as_str())?)?;
             Some(Command::Graph { plan })
+        }
+        [word, count] if word.as_str() == "selector" => {
+            let definitions = small(count.as_str())?;
+            if definitions > MOST {
+                return None;
+            }
+            Some(Command::Selector { definitions })
         }
         [word, n, classes, selectors] if word.as_str() == "bench" => {
             let size = Size::new(small(classes.as_str())?, small(selectors.as_str())?)?;

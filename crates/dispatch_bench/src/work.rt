@@ -1,20 +1,10 @@
-ghost use Rattle.std.specs.Prelude.{◌≡◌, fold, count_by, IfOk, OnOk};
-ghost use Rattle.dt_definitions.specs.Program.{empty_program};
-ghost use Rattle.dt_definitions.specs.Step.{step, stepped};
-ghost use Rattle.std.specs.Result.{is_ok};
-ghost use Rattle.dt_graph.specs.Below.{is_below};
-ghost use Rattle.dt_scratch.specs.Resolve.{reply};
-ghost use Rattle.dispatch_bench.specs.Work.{after_edit, code_of, mixed};
-
 use crate::mix::{Mix, code_of};
 use dt_definitions::{ApplyFault, Batch, BatchFault, ClassGraph, ClassNo, Edit, NoMemory, Program};
 use dt_scratch::{Query, resolve};
 use std::alloc::Global;
 
 /// Applies a batch. Where it is refused the program is as it was.
-fn step_batch(program: &mut Program, batch: &Batch) -> Result<(), NoMemory>
-    ensures { OnOk result (program.new ≡ stepped program.old batch.now) }
-{
+fn step_batch(program: &mut Program, batch: &Batch) -> Result<(), NoMemory> {
     match program.apply_batch(batch) {
         Ok(()) => Ok(()),
         Err(BatchFault::Refused { .. }) => Ok(()),
@@ -23,9 +13,7 @@ fn step_batch(program: &mut Program, batch: &Batch) -> Result<(), NoMemory>
 }
 
 /// The program that these batches make.
-pub fn load(alloc: Global, batches: &[Batch]) -> Result<Program, NoMemory>
-    ensures { IfOk result (λ program. program ≡ fold stepped empty_program batches.now) }
-{
+pub fn load(alloc: Global, batches: &[Batch]) -> Result<Program, NoMemory> {
     let mut program = Program::new(alloc)?;
     for batch in batches {
         step_batch(&mut program, batch)?;
@@ -34,10 +22,7 @@ pub fn load(alloc: Global, batches: &[Batch]) -> Result<Program, NoMemory>
 }
 
 /// Applies an edit, and tells whether it was accepted. Where it is refused the program is as it was.
-pub fn try_edit(program: &mut Program, edit: &Edit) -> Result<bool, NoMemory>
-    ensures after { OnOk result (program.new ≡ after_edit program.old edit.now) }
-    ensures told { IfOk result (λ accepted. accepted ≡ is_ok (step program.old edit.now)) }
-{
+pub fn try_edit(program: &mut Program, edit: &Edit) -> Result<bool, NoMemory> {
     match program.apply(edit) {
         Ok(()) => Ok(true),
         Err(ApplyFault::Refused { .. }) => Ok(false),
@@ -46,9 +31,7 @@ pub fn try_edit(program: &mut Program, edit: &Edit) -> Result<bool, NoMemory>
 }
 
 /// Applies the edits in order, and answers how many were accepted.
-pub fn apply_all(program: &mut Program, edits: &[Edit]) -> Result<u32, NoMemory>
-    ensures { OnOk result (program.new ≡ fold after_edit program.old edits.now) }
-{
+pub fn apply_all(program: &mut Program, edits: &[Edit]) -> Result<u32, NoMemory> {
     let mut accepted: u32 = 0;
     for edit in edits {
         if try_edit(program, edit)? {
@@ -59,18 +42,14 @@ pub fn apply_all(program: &mut Program, edits: &[Edit]) -> Result<u32, NoMemory>
 }
 
 /// Resolves the queries in order; the mix takes each reply in.
-pub fn resolve_all(program: &Program, queries: &[Query], mix: &mut Mix)
-    ensures { mix.new ≡ fold (λ m query. mixed m (code_of (reply program.now query))) mix.old queries.now }
-{
+pub fn resolve_all(program: &Program, queries: &[Query], mix: &mut Mix) {
     for query in queries {
         mix.add(code_of(resolve(program, query)));
     }
 }
 
 /// Asks for each pair whether its first class is below its second, and answers how many are.
-pub fn count_below(graph: &ClassGraph, pairs: &[(ClassNo, ClassNo)]) -> usize
-    ensures { result ≡ count_by (λ pair. is_below graph.now.links pair.0 pair.1) pairs.now }
-{
+pub fn count_below(graph: &ClassGraph, pairs: &[(ClassNo, ClassNo)]) -> usize {
     pairs
         .iter()
         .filter(|pair| graph.is_below(pair.0, pair.1))

@@ -15,6 +15,3 @@ fn main(rt: HostRuntime) -> ExitCode {
     let status = exit_status(&rt, rt.alloc(), env::args(&rt), &mut source, &mut sink);
     ExitCode::from(status)
 }
-
-#[cfg(test)]
-mod tests;

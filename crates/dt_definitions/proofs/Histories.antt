@@ -1,5 +1,5 @@
 -- The program after every history is lawful.
-use Rattle.std.proofs.Common.{◌≡◌, List, [], ◌∷◌, Ok, Err, refl, subst}
+use Rattle.std.proofs.Common.{◌≡◌, List, [], ◌∷◌, ◌++◌, Ok, Err, refl, subst}
 use Rattle.std.specs.Result.{result_unwrap_or}
 use Rattle.dt_definitions.specs.Program.{Program, empty_program}
 use Rattle.dt_definitions.specs.Lawful.{Lawful, IsInRange}
@@ -9,7 +9,7 @@ use Rattle.dt_definitions.specs.declared.edit.Edit.{Edit}
 use Rattle.dt_definitions.proofs.BatchLaws.{batch_is_its_edits}
 
 module _ (law : (old : Program) (edit : Edit) (new : Program) → Lawful old → IsInRange edit → step old edit ≡ Ok new → Lawful new) where
-  lawful-along : (p q : Program) (edits : List Edit) → LeadsTo p edits q → Lawful p → AreInRange edits → Lawful q
+  pub lawful-along : (p q : Program) (edits : List Edit) → LeadsTo p edits q → Lawful p → AreInRange edits → Lawful q
   lawful-along p q [] h l r = subst Lawful h l
   lawful-along p q (edit ∷ edits) h l r = lawful-along h.0 q edits h.2 (law p edit h.0 l r.0 h.1) r.1
 
@@ -26,3 +26,8 @@ module _ (law : (old : Program) (edit : Edit) (new : Program) → Lawful old →
 
   pub histories_are_lawful : Lawful empty_program → HistoriesAreLawful
   histories_are_lawful empty history r = lawful-after empty_program history empty r
+
+-- edits in range with one more
+pub in_range_push : (edits : List Edit) (last : Edit) → AreInRange edits → IsInRange last → AreInRange (edits ++ last ∷ [])
+in_range_push [] last h r = (r, tt)
+in_range_push (edit ∷ edits) last h r = (h.0, in_range_push edits last h.1 r)

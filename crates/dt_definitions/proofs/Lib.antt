@@ -1,6 +1,6 @@
 pub mod ClassOrder
+pub mod Searching
 pub mod RowOrder
-pub mod RowChanges
 pub mod DefinitionOrder
 pub mod Placing
 pub mod DefinedOnce
@@ -20,3 +20,4 @@ pub mod DefinitionLaws
 pub mod Histories
 pub mod LawfulExamples
 pub mod AnswerExamples
+pub mod Differing

@@ -1,5 +1,5 @@
 -- Undoing all that was kept, and the steps of a batch that keep it.
-use Rattle.std.proofs.Common.{◌≡◌, ℕ, ◌+◌, ◌<◌, List, [], ◌∷◌, ◌++◌, length, drop, get_or, reverse, Ok, Result, sym, ap, subst, ◌∙◌, arith}
+use Rattle.std.proofs.Common.{◌≡◌, ℕ, ◌+◌, ◌<◌, List, [], ◌∷◌, ◌++◌, length, drop, get_or, reverse, Ok, Result, sym, ap, ◌∙◌, arith}
 use Rattle.std.proofs.lemmas.List.{reverse-append, drop_more}
 use Rattle.dt_definitions.specs.Program.{Program}
 use Rattle.dt_definitions.specs.DefinitionRows.{RoomStays}

@@ -1,11 +1,13 @@
 -- How the definitions are kept: a row for each selector, in ascending order of class lists.
-use Rattle.std.specs.Prelude.{◌≡◌, ◌==◌, ℕ, false, ◌≤◌, suc, ◌+◌, ◌<◌, if◌then◌else◌, IsTrue, List, [], ◌∷◌, ◌++◌, length, Option, None, IsSome, Result, Ok, Err, map, filter, find, slice_index}
-use Rattle.std.specs.List.{HoldsAt, list_any}
+use Rattle.std.specs.Prelude.{◌≡◌, ◌==◌, ℕ, Bool, false, ◌≤◌, ◌+◌, ◌<◌, List, [], ◌∷◌, ◌++◌, length, Option, Result, map, filter, slice_index}
+use Rattle.std.specs.List.{list_any}
 use Rattle.std.specs.Option.{option_map}
 use Rattle.dt_graph.specs.Graph.{has_number}
+use Rattle.dt_graph.specs.InOrder.{Ascends, find_at}
 use Rattle.dt_graph.specs.declared.limits.TheConstants.{CLASSES}
 use Rattle.dt_selectors.specs.declared.limits.TheConstants.{SELECTORS}
 use Rattle.dt_definitions.specs.Lawful.{AscendingDefinitions}
+use Rattle.dt_definitions.specs.Search.{Searched}
 use Rattle.dt_definitions.specs.Program.{Definition, same_classes, are_classes_before, is_definition}
 use Rattle.dt_definitions.specs.declared.defined.Defined.{Defined}
 
@@ -38,31 +40,24 @@ rooms_of rows = map (λ row. row.room) rows
 abbrev pub shown_by : List DefinitionRow → Definitions
 shown_by rows = record { all = definitions_from 0 rows; rooms = rooms_of rows }
 
--- the classes stand before those of every definition of the row
-abbrev pub StandsBefore : List ℕ → List Defined → Type 0
-StandsBefore classes [] = Unit {0}
-StandsBefore classes (d ∷ row) = IsTrue (are_classes_before classes d.classes) × StandsBefore classes row
+-- a row is searched by its classes
+abbrev pub classes_at : Defined → List ℕ
+classes_at d = d.classes
 
--- each definition of the row stands before those that follow
+abbrev pub are_same : List ℕ → List ℕ → Bool
+are_same wanted classes = same_classes classes wanted
+
+-- each definition of the row stands before the next
 abbrev pub RowAscends : List Defined → Type 0
-RowAscends [] = Unit {0}
-RowAscends (d ∷ row) = StandsBefore d.classes row × RowAscends row
-
--- the first place of the row, from 0, whose classes don't stand before these
-abbrev pub first_place : List ℕ → List Defined → ℕ
-first_place classes [] = 0
-first_place classes (d ∷ row) = if are_classes_before d.classes classes then suc (first_place classes row) else 0
+RowAscends row = Ascends classes_at are_classes_before row
 
 -- the body at these classes, if they are defined in the row
 abbrev pub body_in : List Defined → List ℕ → Option ℕ
-body_in row classes = option_map (λ d. d.body) (find (λ d. same_classes d.classes classes) row)
+body_in row classes = option_map (λ d. d.body) (find_at classes_at are_same classes row)
 
--- what a search for the classes answers: their place, or else the place at which they would stand
-abbrev pub Searched : List Defined → List ℕ → Result ℕ ℕ → Type 0
-Searched row classes (Ok place) =
-    (place ≡ first_place classes row) × (place < length row)
-    × HoldsAt (λ d. IsTrue (same_classes d.classes classes)) row place × IsSome (body_in row classes)
-Searched row classes (Err place) = (place ≡ first_place classes row) × (body_in row classes ≡ None)
+-- what a search of the row for the classes answers
+abbrev pub RowSearched : List Defined → List ℕ → Result ℕ ℕ → Type 0
+RowSearched row classes answer = Searched classes_at are_classes_before are_same classes row answer
 
 -- the selector is defined at these classes already, or its row has room for one more definition
 abbrev pub HasRoomFor : Definitions → ℕ → List ℕ → Type 0

@@ -7,13 +7,13 @@ use Rattle.dt_definitions.specs.declared.edit.Edit.{Edit}
 use Rattle.dt_definitions.specs.declared.edit.Edit.TheVariants as edit
 use Rattle.dt_definitions.specs.declared.why.Why.TheVariants as why
 
-abbrev shape : ℕ
+abbrev pub shape : ℕ
 shape = 0
 
-abbrev circle : ℕ
+abbrev pub circle : ℕ
 circle = 1
 
-abbrev square : ℕ
+abbrev pub square : ℕ
 square = 2
 
 abbrev squircle : ℕ
@@ -23,14 +23,14 @@ abbrev other : ℕ
 other = 9
 
 -- a selector of one argument, and one of two
-abbrev draw : ℕ
+abbrev pub draw : ℕ
 draw = 5
 
 abbrev collide : ℕ
 collide = 7
 
 -- what a selector is at one class
-abbrev at : ℕ → ℕ → ℕ → Definition
+abbrev pub at : ℕ → ℕ → ℕ → Definition
 at selector class body = record { selector = selector; classes = class ∷ []; body = body }
 
 abbrev to : ℕ → ℕ → Link

@@ -1,6 +1,8 @@
 pub mod AnswerExamples
 pub mod AnswerLaws
 pub mod DefinitionRows
+pub mod Differing
+pub mod DifferingExamples
 pub mod Examples
 pub mod Lawful
 pub mod Laws
@@ -10,7 +12,10 @@ pub mod OrderExamples
 pub mod Parts
 pub mod Place
 pub mod Program
+pub mod ProgramLaws
 pub mod RefusalExamples
+pub mod Refusals
+pub mod Search
 pub mod SecondProgram
 pub mod Step
 pub mod TupleForm

@@ -10,11 +10,14 @@ mod definition_table;
 mod edit;
 mod kept;
 mod law;
+mod laws;
 mod limits;
 mod parents;
 mod parts;
 mod program;
+mod refusal;
 mod row;
+mod sharing;
 mod tuple;
 mod two_programs;
 mod undo;
@@ -26,18 +29,18 @@ pub use answer_law::{
 };
 pub use batch::Batch;
 pub use defined::Defined;
-pub use dt_graph::{CLASSES, ClassGraph, ClassNo, NoMemory, PARENTS};
-pub use dt_selectors::{Arity, BODIES, BodyNo, SELECTORS, SelNo};
+pub use dt_graph::{CLASSES, ClassGraph, ClassNo, GraphFault, NoMemory, PARENTS};
+pub use dt_selectors::{
+    Arity, BODIES, BodyNo, NAMES, NameFault, Names, SELECTORS, SelNo, SelectorFault,
+};
 pub use edit::Edit;
 pub use law::{
     batches_are_their_edits, definitions_stand_alone, histories_are_lawful, steps_keep_law,
 };
+pub use laws::{batches_differ_where_they_say, histories_go_on_by_one, keys_are_defined_once};
 pub use limits::DEFINITIONS;
 pub use parents::Parents;
 pub use program::Program;
 pub use tuple::Tuple;
 pub use two_programs::TwoPrograms;
 pub use why::{ApplyFault, BatchFault, Why};
-
-#[cfg(test)]
-mod tests;

@@ -1,12 +1,8 @@
 -- Places in a list that pass a test are no more than a list that names each of them.
-use Rattle.std.specs.List.{list_any}
 use Rattle.std.proofs.Common.{◌≡◌, ◌≢◌, ◌⊎◌, ℕ, suc, ◌+◌, ◌<◌, ◌≤◌, ◌==◌, ◌||◌, Bool, true, false, cond, List, [], ◌∷◌, length, get_or, count_by, refl, sym, ap, subst, ◌∙◌, inl, inr, arith, eqb-true, eq-eqb, true≢false}
 use Rattle.std.proofs.lemmas.List.Sums.{sum_by-cons}
 use native.Mathlib.Decide.{ℕ_discrete}
-
--- the number stands in the list
-abbrev pub stands_in : ℕ → List ℕ → Bool
-stands_in x xs = list_any (λ h. h == x) xs
+use Rattle.dt_gate.specs.Gate.{stands_in}
 
 pub or_of : (a b : Bool) → (a || b) ≡ true → (a ≡ true) ⊎ (b ≡ true)
 or_of true b is = inl refl

@@ -6,10 +6,11 @@ use Rattle.dt_gate.specs.declared.gate.Gate.{Gate}
 use Rattle.dt_gate.specs.declared.gate.Root.{Root}
 use Rattle.dt_gate.specs.declared.gate.Standing.{Standing}
 use Rattle.dt_gate.specs.declared.gate.Standing.TheVariants.{Free, Now, Old}
-use Rattle.dt_gate.specs.Gate.{Limits, blank_root, root_at, is_old}
-use Rattle.dt_gate.specs.Sweeps.{old_roots, SweepLeavesRoom}
+use Rattle.dt_gate.specs.Gate.{Bounds, blank_root, root_at, is_old, stands_in}
+use Rattle.dt_gate.specs.Counts.{old_roots}
+use Rattle.dt_gate.specs.Sweeps.{AllOldAreHeld, LeavesRoom}
 use Rattle.dt_gate.proofs.Kept.{Kept}
-use Rattle.dt_gate.proofs.Places.{stands_in, in_head, count_places}
+use Rattle.dt_gate.proofs.Places.{in_head, count_places}
 
 abbrev is_current : Standing → Bool
 is_current Free = false
@@ -44,24 +45,29 @@ free_or_none (r ∷ roots) = go r.standing refl (free_or_none roots)
     go (Old entries) is (inl found) = inl (suc found.0, omega (arith, found.1), found.2)
     go (Old entries) is (inr counts) = inr (more counts (subst (λ st. 1 ≤ cond {A = ℕ} (is_old st) 1 0 + cond {A = ℕ} (is_current st) 1 0) (sym is) (omega arith)))
 
-module _ {M E : Type 0} (shows : Reading → List E → Type 0) (limits : Limits) where
-  -- where a list names every old root, and is no longer than the readers out, some root is free
-  pub room : (gate : Gate M E) → Kept shows limits gate → (names : List ℕ) → ((root : ℕ) → is_old (root_at gate root).standing ≡ true → stands_in root names ≡ true)
-      → length names ≤ gate.out → SweepLeavesRoom limits gate
-  room gate kept names named short = record { still_old = omega (arith, old, short); some_free = found (free_or_none gate.roots) }
+module _ {M I : Type 0} (shows : Reading → List I → Type 0) (bounds : Bounds) where
+  -- where every old root is found held, some root is free
+  pub room : (gate : Gate M I) → Kept shows bounds gate → AllOldAreHeld gate.author → LeavesRoom bounds gate.author
+  room gate kept named = record {
+    still_old = old;
+    held = omega (arith, kept.counted.sweep.held);
+    count = kept.counted.sweep.count;
+    some_free = found (free_or_none gate.author.roots);
+  }
     where
       at_zero : (names : List ℕ) (root : ℕ) → stands_in root names ≡ true → stands_in (0 + root) names ≡ true
       at_zero names root is = let same : root ≡ 0 + root = omega arith in subst (λ k. stands_in k names ≡ true) same is
 
-      old : old_roots gate ≤ length names
-      old = count_places (λ (r : Root). is_old r.standing) blank_root gate.roots 0 names (λ root below is. at_zero names root (named root is))
+      old : old_roots gate.author ≤ length gate.author.held
+      old = count_places (λ (r : Root). is_old r.standing) blank_root gate.author.roots 0 gate.author.held (λ root below is. at_zero gate.author.held root (named root is))
 
-      current : count_by (λ (r : Root). is_current r.standing) gate.roots ≤ 1
-      current = count_places (λ (r : Root). is_current r.standing) blank_root gate.roots 0 (gate.current ∷ [])
-          (λ root below is. at_zero (gate.current ∷ []) root (in_head gate.current root [] (sym (kept.counted.one.no_other root (is_current_now (root_at gate root).standing is)))))
+      current : count_by (λ (r : Root). is_current r.standing) gate.author.roots ≤ 1
+      current = count_places (λ (r : Root). is_current r.standing) blank_root gate.author.roots 0 (gate.author.current ∷ [])
+          (λ root below is. at_zero (gate.author.current ∷ []) root (in_head gate.author.current root []
+          (sym (kept.counted.one.no_other root (is_current_now (root_at gate.author root).standing is)))))
 
-      found : ((root : ℕ) × (root < length gate.roots) × ((root_at gate root).standing ≡ Free))
-          ⊎ (length gate.roots ≤ count_by (λ (r : Root). is_old r.standing) gate.roots + count_by (λ (r : Root). is_current r.standing) gate.roots)
-          → (root : ℕ) × (root < limits.readers + 2) × ((root_at gate root).standing ≡ Free)
+      found : ((root : ℕ) × (root < length gate.author.roots) × ((root_at gate.author root).standing ≡ Free))
+          ⊎ (length gate.author.roots ≤ count_by (λ (r : Root). is_old r.standing) gate.author.roots + count_by (λ (r : Root). is_current r.standing) gate.author.roots)
+          → (root : ℕ) × (root < bounds.readers + 2) × ((root_at gate.author root).standing ≡ Free)
       found (inl free) = (free.0, subst (λ n. free.0 < n) kept.counted.roots free.1, free.2)
-      found (inr full) = absurd (omega (arith, full, kept.counted.roots, old, current, short, kept.counted.bounded.readers_out))
+      found (inr full) = absurd (omega (arith, full, kept.counted.roots, old, current, kept.counted.sweep.held, kept.counted.sweep.count))

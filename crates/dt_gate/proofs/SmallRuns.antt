@@ -1,9 +1,9 @@
 -- Runs over few pages.
 use Rattle.std.proofs.Common.{◌≡◌, ◌≢◌, ◌⊎◌, ℕ, zero, suc, ◌+◌, ◌*◌, ◌<◌, List, get_or, set, replicate, sym, subst, ◌∙◌, inl, inr, arith}
-use Rattle.dt_pages.specs.Reading.{Pages, Reading, Meets, Reaches, levels}
-use Rattle.dt_pages.proofs.Readings.{zero_meets}
+use Rattle.dt_pages.specs.Reading.{Pages, Reading, Meets, Reaches, levels, page_words}
+use Rattle.dt_pages.specs.Laws.{PageZeroIsEmpty}
 use Rattle.dt_gate.specs.declared.gate.Gate.{Gate}
-use Rattle.dt_gate.specs.Gate.{Limits, IsLive, pages_of, root_at}
+use Rattle.dt_gate.specs.Gate.{Bounds, IsLive, pages_of, root_at}
 use Rattle.dt_gate.proofs.Kept.{Kept}
 use Rattle.dt_gate.proofs.Lists.{at_set}
 use Rattle.dt_gate.proofs.Running.{same_everywhere}
@@ -20,7 +20,7 @@ meets_zero pages zeros (suc level) found page (inr way) = again (meets_zero page
 
 -- so all that it reaches is in bounds
 pub zero_in_bounds : (n bound top page : ℕ) → top < bound → Reaches (pages_of (replicate n 0)) top page → page < bound
-zero_in_bounds n bound top page below met = go (meets_zero (pages_of (replicate n 0)) (λ p at. same_everywhere n 0 (512 * p + at)) levels top page met)
+zero_in_bounds n bound top page below met = go (meets_zero (pages_of (replicate n 0)) (λ p at. same_everywhere n 0 (page_words * p + at)) levels top page met)
   where
     go : (top ≡ page) ⊎ (page ≡ 0) → page < bound
     go (inl e) = omega (arith, e, below)
@@ -37,8 +37,8 @@ pub bounded_set : (words : List ℕ) (bound i word : ℕ) → word < bound → (
 bounded_set words bound i word below all j = at_set (λ w. w < bound) 0 words i j word (λ e. below) (λ n. all j) (λ past. all j)
 
 -- while only root 0 is live, and its top is page 0, no other page is reached
-pub not_reached : {M E : Type 0} (shows : Reading → List E → Type 0) (limits : Limits) (gate : Gate M E) → Kept shows limits gate
-    → ((root : ℕ) → IsLive (root_at gate root).standing → (root_at gate root).top ≡ 0) → (page : ℕ) → page ≢ 0
-    → (root : ℕ) → IsLive (root_at gate root).standing → ¬ Reaches (pages_of gate.words) (root_at gate root).top page
-not_reached shows limits gate kept only page other root live met =
-    other (zero_meets (pages_of gate.words) kept.shown.pages.page_zero_is_empty levels page (subst (λ t. Reaches (pages_of gate.words) t page) (only root live) met))
+pub not_reached : {M I : Type 0} (shows : Reading → List I → Type 0) (bounds : Bounds) (gate : Gate M I) → PageZeroIsEmpty → Kept shows bounds gate
+    → ((root : ℕ) → IsLive (root_at gate.author root).standing → (root_at gate.author root).top ≡ 0) → (page : ℕ) → page ≢ 0
+    → (root : ℕ) → IsLive (root_at gate.author root).standing → ¬ Reaches (pages_of gate.author.words) (root_at gate.author root).top page
+not_reached shows bounds gate page_zero kept only page other root live met =
+    other (page_zero.reach (pages_of gate.author.words) kept.shown.pages.page_zero_is_empty page (subst (λ t. Reaches (pages_of gate.author.words) t page) (only root live) met))

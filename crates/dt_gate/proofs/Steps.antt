@@ -1,48 +1,53 @@
--- Every step keeps what is kept, and what is kept is sound.
-use Rattle.std.proofs.Common.{◌≡◌, ℕ, ◌+◌, ◌-◌, ◌<◌, nat_lt, Bool, true, false, cond, List, [], ◌∷◌, ◌++◌, length, set, refl, sym, ap, subst, ◌∙◌, ltb-true}
+-- Every step keeps what is kept.
+use Rattle.std.proofs.Common.{◌≡◌, ℕ, ◌+◌, ◌-◌, ◌<◌, nat_lt, Bool, true, false, cond, List, [], ◌∷◌, ◌++◌, length, set, refl, sym, ap, subst, ◌∙◌, ltb-true, ltb-false}
 use mathlib.Core.List.{IsPrefix}
 use Rattle.dt_pages.specs.Reading.{Reading}
+use Rattle.dt_pages.specs.Laws.{ReachedPagesDecide}
 use Rattle.dt_gate.specs.declared.event.Event.{Event}
 use Rattle.dt_gate.specs.declared.event.Event.TheVariants.{Look, Enter, Read, Leave, Fill, Lay, Publish, Poll, SeatOut, NoteOut, SeatBack, NoteBack, Tell}
 use Rattle.dt_gate.specs.declared.event.Holder.{Holder}
-use Rattle.dt_gate.specs.declared.event.Holder.TheVariants.{Author, Reader}
+use Rattle.dt_gate.specs.declared.event.Holder.TheVariants as holder
 use Rattle.dt_gate.specs.declared.event.RecordWord.{RecordWord}
+use Rattle.dt_gate.specs.declared.gate.Author.{Author}
 use Rattle.dt_gate.specs.declared.gate.Gate.{Gate}
-use Rattle.dt_gate.specs.declared.gate.Root.{Root}
 use Rattle.dt_gate.specs.declared.gate.Frozen.{Frozen}
 use Rattle.dt_gate.specs.declared.gate.Seat.{Seat}
 use Rattle.dt_gate.specs.declared.gate.Stage.{Stage}
 use Rattle.dt_gate.specs.declared.gate.Stage.TheVariants.{Out, Near, In, Note, Spent}
-use Rattle.dt_gate.specs.declared.gate.Standing.TheVariants.{Free}
-use Rattle.dt_gate.specs.Gate.{Limits, root_at, seat_at, spent}
-use Rattle.dt_gate.specs.Events.{with_seat, with_root, with_word, longer, history_of, given, IsReader, IsHolder, MayPublish, after_enter, after_leave, frozen_now, joined_by, IsAllowed, step}
-use Rattle.dt_gate.proofs.Kept.{Shown, Entered, Kept}
+use Rattle.dt_gate.specs.Gate.{Bounds, root_at, exits_at, seat_at, spent}
+use Rattle.dt_gate.specs.Author.{with_word, MayFill, MayLay, MayPublish, after_hear, after_seat_back}
+use Rattle.dt_gate.specs.Seats.{given, IsReader, after_enter, after_hearing, frozen_now}
+use Rattle.dt_gate.specs.Events.{with_seat, history_of, IsHolder, exits_laid, after_leave, IsAllowed, step}
+use Rattle.dt_gate.proofs.Kept.{Entered, Kept}
 use Rattle.dt_gate.proofs.Lists.{at_set}
 use Rattle.dt_gate.proofs.Roots.{lay_keeps_standing}
 use Rattle.dt_gate.proofs.Histories.{prefix_same, prefix_empty, prefix_trans}
 use Rattle.dt_gate.proofs.CountedSeats.{counted_copy, counted_stays, counted_near, counted_enter, counted_seat_out, counted_note_out, counted_seat_back, counted_note_back}
 use Rattle.dt_gate.proofs.CountedRoots.{inside_is_live, counted_leave, counted_lay, counted_publish, counted_poll}
 use Rattle.dt_gate.proofs.ShownSeats.{SeatIsShown, seat_is_shown, outside_is_shown, spent_is_shown, shown_copy, shown_with_seat, shown_push, shown_joined, joined_is_shown, enter_is_shown}
-use Rattle.dt_gate.proofs.ShownRoots.{shown_with_root, shown_lay}
+use Rattle.dt_gate.proofs.ShownRoots.{exits_of_others, exits_as_many, shown_exits, shown_lay}
 use Rattle.dt_gate.proofs.ShownPages.{shown_fill, shown_publish, shown_poll}
-use Rattle.dt_gate.proofs.EnteredSeats.{seat_is_entered, spent_is_entered, entered_copy, entered_stays, entered_push, entered_back, entered_joined, entered_enter}
-use Rattle.dt_gate.proofs.EnteredRoots.{worn_look, entered_with_root, entered_lay, entered_publish, entered_poll}
+use Rattle.dt_gate.proofs.EnteredSeats.{seat_is_entered, reader_is_entered, spent_is_entered, entered_copy, entered_stays, entered_push, entered_back, entered_joined, entered_enter}
+use Rattle.dt_gate.proofs.EnteredRoots.{worn_look, entered_lay, entered_publish, entered_poll}
 
-module _ {M E : Type 0} (shows : Reading → List E → Type 0) (limits : Limits) where
-  kept_look : (gate : Gate M E) (seat : ℕ) → Kept shows limits gate → (seat_at gate seat).stage ≡ Out → Kept shows limits (step limits gate (Look seat))
-  kept_look gate seat kept is = go (nat_lt gate.entries limits.entries) refl
+module _ {M I : Type 0} (shows : Reading → List I → Type 0) (bounds : Bounds) where
+  kept_look : (gate : Gate M I) (seat : ℕ) → Kept shows bounds gate → (seat_at gate seat).stage ≡ Out → Kept shows bounds (step bounds gate (Look seat))
+  kept_look gate seat kept is = go (nat_lt gate.entries bounds.entries) refl
     where
-      s : Seat M E
+      s : Seat M I
       s = seat_at gate seat
 
-      shown : SeatIsShown shows gate s
-      shown = seat_is_shown shows limits gate kept.shown seat
+      shown : SeatIsShown shows gate.author s
+      shown = seat_is_shown shows bounds gate kept.shown seat
 
-      near : Seat M E
+      reader : IsReader s.stage
+      reader = subst IsReader (sym is) tt
+
+      near : Seat M I
       near = record s { stage = Near }
 
-      worn : Seat M E
-      worn = record s { history = gate.history; worn = s.worn ++ (length gate.history, gate.entries) ∷ [] }
+      worn : Seat M I
+      worn = record s { history = gate.author.history; worn = s.worn ++ (length gate.author.history, gate.entries) ∷ [] }
 
       not_inside : (root : ℕ) (frozen : Frozen) → ¬ (s.stage ≡ In root frozen)
       not_inside root frozen inside = out_is_not_in (sym is ∙ inside)
@@ -50,168 +55,168 @@ module _ {M E : Type 0} (shows : Reading → List E → Type 0) (limits : Limits
           out_is_not_in : ¬ (Out ≡ In root frozen)
           out_is_not_in c = cc
 
-      go : (below : Bool) → nat_lt gate.entries limits.entries ≡ below → Kept shows limits (with_seat gate seat (cond below near worn))
+      go : (below : Bool) → nat_lt gate.entries bounds.entries ≡ below → Kept shows bounds (with_seat gate seat (cond below near worn))
       go true e = record {
-        counted = counted_near limits gate seat near kept.counted is refl (ltb-true gate.entries limits.entries e);
-        shown = shown_with_seat shows limits gate seat near kept.shown (outside_is_shown shows gate near (λ root frozen c. cc) shown.history shown.joined);
-        entered = entered_stays gate seat near kept.entered refl (record { worn = kept.entered.worn.of_a_seat seat; not_a_reader = λ none. absurd (none tt) });
+        counted = counted_near bounds gate seat near kept.counted is refl (ltb-true gate.entries bounds.entries e);
+        shown = shown_with_seat shows bounds gate seat near kept.shown (outside_is_shown shows gate.author near (λ root frozen c. cc) shown.history shown.joined);
+        entered = entered_stays bounds gate seat near kept.entered refl (reader_is_entered bounds gate kept.entered seat near refl tt);
       }
       go false e = record {
-        counted = counted_stays limits gate seat worn kept.counted refl;
-        shown = shown_with_seat shows limits gate seat worn kept.shown (outside_is_shown shows gate worn not_inside (prefix_same gate.history)
-            (prefix_trans s.joined.0 s.history gate.history shown.joined.0 shown.history, prefix_trans s.joined.1 s.history gate.history shown.joined.1 shown.history));
-        entered = entered_stays gate seat worn kept.entered refl (worn_look limits shows gate s kept.shown kept.entered (seat_is_entered gate kept.entered seat));
+        counted = counted_stays bounds gate seat worn kept.counted refl;
+        shown = shown_with_seat shows bounds gate seat worn kept.shown (outside_is_shown shows gate.author worn not_inside (prefix_same gate.author.history)
+            (prefix_trans s.joined.0 s.history gate.author.history shown.joined.0 shown.history, prefix_trans s.joined.1 s.history gate.author.history shown.joined.1 shown.history));
+        entered = entered_stays bounds gate seat worn kept.entered refl
+            (worn_look bounds shows gate s kept.shown kept.entered (seat_is_entered bounds gate kept.entered seat) reader (ltb-false gate.entries bounds.entries e));
       }
 
-  kept_enter : (gate : Gate M E) (seat : ℕ) → Kept shows limits gate → (seat_at gate seat).stage ≡ Near → Kept shows limits (step limits gate (Enter seat))
+  kept_enter : (gate : Gate M I) (seat : ℕ) → Kept shows bounds gate → (seat_at gate seat).stage ≡ Near → Kept shows bounds (step bounds gate (Enter seat))
   kept_enter gate seat kept is =
-      let to : Seat M E = after_enter gate (seat_at gate seat) in
-      let one_more : Gate M E = record gate { entries = gate.entries + 1 } in
+      let to : Seat M I = after_enter gate.author (seat_at gate seat) in
       record {
-        counted = counted_enter limits gate seat to (frozen_now gate) kept.counted is refl;
-        shown = shown_copy shows limits (with_seat gate seat to) (with_seat one_more seat to)
-            (shown_with_seat shows limits gate seat to kept.shown
-            (enter_is_shown shows limits gate (seat_at gate seat) kept.shown kept.counted.one.named (seat_is_shown shows limits gate kept.shown seat)));
-        entered = entered_enter limits shows gate seat kept.counted kept.shown kept.entered is;
+        counted = counted_enter bounds gate seat to (frozen_now gate.author) kept.counted is refl;
+        shown = shown_copy shows bounds (with_seat gate seat to) (gate.entries + 1) gate.author
+            (shown_with_seat shows bounds gate seat to kept.shown
+            (enter_is_shown shows bounds gate (seat_at gate seat) kept.shown kept.counted.one.named (seat_is_shown shows bounds gate kept.shown seat)));
+        entered = entered_enter bounds shows gate seat kept.counted kept.shown kept.entered is;
       }
 
-  kept_leave : (gate : Gate M E) (seat : ℕ) → Kept shows limits gate → (stage : Stage) → (seat_at gate seat).stage ≡ stage → IsAllowed shows limits gate (Leave seat) → Kept shows limits (after_leave gate seat stage)
-  kept_leave gate seat kept Out is allowed = kept
-  kept_leave gate seat kept Near is allowed = kept
-  kept_leave gate seat kept Note is allowed = kept
-  kept_leave gate seat kept Spent is allowed = kept
-  kept_leave gate seat kept (In root frozen) is allowed = record {
-    counted = counted_leave limits gate seat root frozen left to kept.counted is refl refl refl;
-    shown = shown_with_seat shows limits between seat to
-        (shown_with_root shows limits gate root left kept.shown refl refl refl (inside_is_live limits gate kept.counted seat root frozen is))
-        (outside_is_shown shows between to (λ r f c. cc) shown.history shown.joined);
-    entered = entered_stays between seat to entered_between refl
-        (record { worn = entered_between.worn.of_a_seat seat; not_a_reader = λ none. absurd (none tt) });
+  kept_leave : (gate : Gate M I) (seat : ℕ) → Kept shows bounds gate → (stage : Stage) → (seat_at gate seat).stage ≡ stage → Kept shows bounds (after_leave gate seat stage)
+  kept_leave gate seat kept Out is = kept
+  kept_leave gate seat kept Near is = kept
+  kept_leave gate seat kept Note is = kept
+  kept_leave gate seat kept Spent is = kept
+  kept_leave gate seat kept (In root frozen) is = record {
+    counted = counted_leave bounds gate seat root frozen to kept.counted is refl;
+    shown = shown_with_seat shows bounds between seat to
+        (shown_exits shows bounds gate root (exits_at gate root + 1) kept.shown (inside_is_live bounds gate kept.counted seat root frozen is))
+        (outside_is_shown shows gate.author to (λ r f c. cc) shown.history shown.joined);
+    entered = entered_stays bounds between seat to entered_between refl (reader_is_entered bounds between entered_between seat to refl tt);
   }
     where
-      left : Root
-      left = record (root_at gate root) { exits = (root_at gate root).exits + 1 }
-
-      to : Seat M E
+      to : Seat M I
       to = record (seat_at gate seat) { stage = Out }
 
-      between : Gate M E
-      between = with_root gate root left
+      between : Gate M I
+      between = record gate { exits = set gate.exits root (exits_at gate root + 1) }
 
-      shown : SeatIsShown shows gate (seat_at gate seat)
-      shown = seat_is_shown shows limits gate kept.shown seat
+      shown : SeatIsShown shows gate.author (seat_at gate seat)
+      shown = seat_is_shown shows bounds gate kept.shown seat
 
-      entered_between : Entered between
-      entered_between = entered_with_root gate root left kept.entered refl (λ e c. c)
+      entered_between : Entered bounds between
+      entered_between = entered_copy bounds gate between.exits gate.author kept.entered
 
-  kept_fill : (gate : Gate M E) (page at word : ℕ) → Kept shows limits gate → IsAllowed shows limits gate (Fill page at word) → Kept shows limits (step limits gate (Fill page at word))
-  kept_fill gate page at word kept allowed =
-      let next : Gate M E = step limits gate (Fill page at word) in
+  kept_fill : (tree : ReachedPagesDecide) (gate : Gate M I) (page at word : ℕ) → Kept shows bounds gate → MayFill bounds gate.author page at → Kept shows bounds (step bounds gate (Fill page at word))
+  kept_fill tree gate page at word kept may =
+      let next : Author M I = (step bounds gate (Fill page at word)).author in
       record {
-        counted = counted_copy limits gate next kept.counted;
-        shown = shown_fill shows limits gate page at word kept.counted kept.shown allowed.0 allowed.2 allowed.3;
-        entered = entered_copy gate next kept.entered;
+        counted = counted_copy bounds gate next kept.counted;
+        shown = shown_fill shows bounds tree gate page at word kept.counted kept.shown may;
+        entered = entered_copy bounds gate gate.exits next kept.entered;
       }
 
-  kept_lay : (gate : Gate M E) (root : ℕ) (word : RecordWord) (value : ℕ) → Kept shows limits gate → (root_at gate root).standing ≡ Free → Kept shows limits (step limits gate (Lay root word value))
-  kept_lay gate root word value kept free = record {
-    counted = counted_lay limits gate root (with_word (root_at gate root) word value) kept.counted free (lay_keeps_standing (root_at gate root) word value ∙ free);
-    shown = shown_lay shows limits gate root word value kept.counted kept.shown free;
-    entered = entered_lay limits gate root word value kept.counted kept.entered free;
+  kept_lay : (gate : Gate M I) (root : ℕ) (word : RecordWord) (value : ℕ) → Kept shows bounds gate → MayLay bounds gate.author root → Kept shows bounds (step bounds gate (Lay root word value))
+  kept_lay gate root word value kept may =
+      let exits : List ℕ = exits_laid gate.exits root word value in
+      let laid : Gate M I = record gate { author = (step bounds gate (Lay root word value)).author } in
+      record {
+        counted = counted_lay bounds gate root (with_word (root_at gate.author root) word value) exits kept.counted may.is_free (lay_keeps_standing (root_at gate.author root) word value ∙ may.is_free)
+            (exits_of_others gate.exits root word value) (exits_as_many gate.exits root word value);
+        shown = shown_lay shows bounds gate root word value kept.counted kept.shown may.is_there may.is_free;
+        entered = entered_copy bounds laid exits laid.author (entered_lay bounds gate root word value kept.counted kept.entered may.is_free);
+      }
+
+  kept_publish : (gate : Gate M I) (root : ℕ) (item : I) → Kept shows bounds gate → MayPublish shows bounds gate.author root item → Kept shows bounds (step bounds gate (Publish root item))
+  kept_publish gate root item kept may = record {
+    counted = counted_publish bounds gate root item kept.counted may.is_free may.no_exit (sym ((kept.shown.pages.laid_words_stand root).exits 0 may.no_exit));
+    shown = shown_publish shows bounds gate root item kept.counted kept.shown may;
+    entered = entered_publish bounds shows gate root item kept.counted kept.shown kept.entered may;
   }
 
-  kept_publish : (gate : Gate M E) (root : ℕ) (entry : E) → Kept shows limits gate → MayPublish shows limits gate root entry → Kept shows limits (step limits gate (Publish root entry))
-  kept_publish gate root entry kept may = record {
-    counted = counted_publish limits gate root entry kept.counted may.is_free may.no_exit (sym ((kept.shown.pages.laid_words_stand root).exits 0 may.no_exit));
-    shown = shown_publish shows limits gate root entry kept.counted kept.shown may;
-    entered = entered_publish limits shows gate root entry kept.counted kept.shown kept.entered may;
-  }
-
-  kept_seat_out : (gate : Gate M E) → Kept shows limits gate → gate.out < limits.readers → Kept shows limits (step limits gate SeatOut)
+  kept_seat_out : (gate : Gate M I) → Kept shows bounds gate → gate.author.out < bounds.readers → Kept shows bounds (step bounds gate SeatOut)
   kept_seat_out gate kept room =
-      let new : Seat M E = given Out gate.history in
-      let pushed : Gate M E = record gate { seats = gate.seats ++ new ∷ [] } in
-      let next : Gate M E = step limits gate SeatOut in
+      let new : Seat M I = given Out gate.author.history in
+      let pushed : Gate M I = record gate { seats = gate.seats ++ new ∷ [] } in
+      let next : Author M I = record gate.author { out = gate.author.out + 1 } in
       record {
-        counted = counted_seat_out limits gate gate.history kept.counted room;
-        shown = shown_copy shows limits pushed next (shown_push shows limits gate new kept.shown
-            (outside_is_shown shows gate new (λ r f c. cc) (prefix_same gate.history) (prefix_empty gate.history, prefix_empty gate.history)));
-        entered = entered_copy pushed next (entered_push gate Out gate.history kept.entered);
+        counted = counted_seat_out bounds gate gate.author.history kept.counted room;
+        shown = shown_copy shows bounds pushed gate.entries next (shown_push shows bounds gate new kept.shown
+            (outside_is_shown shows gate.author new (λ r f c. cc) (prefix_same gate.author.history) (prefix_empty gate.author.history, prefix_empty gate.author.history)));
+        entered = entered_copy bounds pushed gate.exits next (entered_push bounds gate Out gate.author.history kept.entered);
       }
 
-  kept_note_out : (gate : Gate M E) (giver : Holder) → Kept shows limits gate → Kept shows limits (step limits gate (NoteOut giver))
+  kept_note_out : (gate : Gate M I) (giver : Holder) → Kept shows bounds gate → Kept shows bounds (step bounds gate (NoteOut giver))
   kept_note_out gate giver kept =
-      let new : Seat M E = given Note (history_of gate giver) in
+      let new : Seat M I = given Note (history_of gate giver) in
       record {
-        counted = counted_note_out limits gate (history_of gate giver) kept.counted;
-        shown = shown_push shows limits gate new kept.shown
-            (outside_is_shown shows gate new (λ r f c. cc) (seen giver) (prefix_empty (history_of gate giver), prefix_empty (history_of gate giver)));
-        entered = entered_push gate Note (history_of gate giver) kept.entered;
+        counted = counted_note_out bounds gate (history_of gate giver) kept.counted;
+        shown = shown_push shows bounds gate new kept.shown
+            (outside_is_shown shows gate.author new (λ r f c. cc) (seen giver) (prefix_empty (history_of gate giver), prefix_empty (history_of gate giver)));
+        entered = entered_push bounds gate Note (history_of gate giver) kept.entered;
       }
     where
-      seen : (holder : Holder) → IsPrefix (history_of gate holder) gate.history
-      seen Author = prefix_same gate.history
-      seen (Reader seat) = kept.shown.prefixes.of_a_seat seat
+      seen : (holder : Holder) → IsPrefix (history_of gate holder) gate.author.history
+      seen holder.Author = prefix_same gate.author.history
+      seen (holder.Reader seat) = kept.shown.prefixes.of_a_seat seat
 
-  kept_seat_back : (gate : Gate M E) (seat : ℕ) → Kept shows limits gate → (seat_at gate seat).stage ≡ Out → Kept shows limits (step limits gate (SeatBack seat))
+  kept_seat_back : (gate : Gate M I) (seat : ℕ) → Kept shows bounds gate → (seat_at gate seat).stage ≡ Out → Kept shows bounds (step bounds gate (SeatBack seat))
   kept_seat_back gate seat kept is =
-      let s : Seat M E = seat_at gate seat in
-      let next : Gate M E = step limits gate (SeatBack seat) in
-      let joined : Gate M E = joined_by gate Author s.history in
-      let back : Gate M E = record joined { seats = set gate.seats seat spent; taken = gate.taken ++ s.entered ∷ []; worn = gate.worn ++ s.worn ∷ [] } in
-      let shown_j : Shown shows limits joined = shown_joined shows limits gate s.history kept.shown (kept.shown.prefixes.of_a_seat seat) in
+      let s : Seat M I = seat_at gate seat in
+      let seen : IsPrefix s.history gate.author.history = kept.shown.prefixes.of_a_seat seat in
+      let next : Author M I = after_seat_back gate.author s in
+      let joined : Gate M I = record gate { author = after_hear gate.author s.history } in
       record {
-        counted = counted_copy limits (with_seat (record gate { out = gate.out - 1 }) seat spent) next (counted_seat_back limits gate seat kept.counted is);
-        shown = shown_copy shows limits (with_seat joined seat spent) next (shown_with_seat shows limits joined seat spent shown_j (spent_is_shown shows joined));
-        entered = entered_copy back next (entered_back joined seat (entered_joined gate s.history kept.entered (kept.shown.prefixes.of_a_seat seat)) is);
+        counted = counted_copy bounds (with_seat (record gate { author = record gate.author { out = gate.author.out - 1 } }) seat spent) next (counted_seat_back bounds gate seat kept.counted is);
+        shown = shown_copy shows bounds (with_seat joined seat spent) gate.entries next
+            (shown_with_seat shows bounds joined seat spent (shown_joined shows bounds gate s.history kept.shown seen) (spent_is_shown shows joined.author));
+        entered = entered_back bounds gate seat kept.entered is seen;
       }
 
   -- a note is given back, after its taker took in its history
-  kept_note_spent : (gate : Gate M E) (note : ℕ) → Kept shows limits gate → (seat_at gate note).stage ≡ Note → Kept shows limits (with_seat gate note spent)
+  kept_note_spent : (gate : Gate M I) (note : ℕ) → Kept shows bounds gate → (seat_at gate note).stage ≡ Note → Kept shows bounds (with_seat gate note spent)
   kept_note_spent gate note kept is = record {
-    counted = counted_note_back limits gate note kept.counted is;
-    shown = shown_with_seat shows limits gate note spent kept.shown (spent_is_shown shows gate);
-    entered = entered_stays gate note spent kept.entered (sym (kept.entered.not_a_reader note (λ reader. subst IsReader is reader))) (spent_is_entered gate);
+    counted = counted_note_back bounds gate note kept.counted is;
+    shown = shown_with_seat shows bounds gate note spent kept.shown (spent_is_shown shows gate.author);
+    entered = entered_stays bounds gate note spent kept.entered (sym (kept.entered.entries.only_by_readers note (λ reader. subst IsReader is reader))) (spent_is_entered bounds gate);
   }
 
-  kept_note_back : (gate : Gate M E) (note : ℕ) (taker : Holder) → Kept shows limits gate → (seat_at gate note).stage ≡ Note → IsHolder gate taker → Kept shows limits (step limits gate (NoteBack note taker))
-  kept_note_back gate note Author kept is holds =
-      let s : Seat M E = seat_at gate note in
-      let joined : Gate M E = joined_by gate Author s.history in
+  kept_note_back : (gate : Gate M I) (note : ℕ) (taker : Holder) → Kept shows bounds gate → (seat_at gate note).stage ≡ Note → IsHolder gate taker → Kept shows bounds (step bounds gate (NoteBack note taker))
+  kept_note_back gate note holder.Author kept is holds =
+      let history : List I = (seat_at gate note).history in
+      let joined : Gate M I = record gate { author = after_hear gate.author history } in
       kept_note_spent joined note (record {
-        counted = counted_copy limits gate joined kept.counted;
-        shown = shown_joined shows limits gate s.history kept.shown (kept.shown.prefixes.of_a_seat note);
-        entered = entered_joined gate s.history kept.entered (kept.shown.prefixes.of_a_seat note);
+        counted = counted_copy bounds gate joined.author kept.counted;
+        shown = shown_joined shows bounds gate history kept.shown (kept.shown.prefixes.of_a_seat note);
+        entered = entered_joined bounds gate history kept.entered (kept.shown.prefixes.of_a_seat note);
       }) is
-  kept_note_back gate note (Reader taker) kept is holds =
-      let s : Seat M E = seat_at gate taker in
-      let history : List E = (seat_at gate note).history in
-      let to : Seat M E = record s { history = longer s.history history; joined = (s.history, history) } in
+  kept_note_back gate note (holder.Reader taker) kept is holds =
+      let s : Seat M I = seat_at gate taker in
+      let history : List I = (seat_at gate note).history in
+      let to : Seat M I = after_hearing s history in
       kept_note_spent (with_seat gate taker to) note (record {
-        counted = counted_stays limits gate taker to kept.counted refl;
-        shown = shown_with_seat shows limits gate taker to kept.shown
-            (joined_is_shown shows limits gate s history (seat_is_shown shows limits gate kept.shown taker) (kept.shown.prefixes.of_a_seat note));
-        entered = entered_stays gate taker to kept.entered refl (record { worn = kept.entered.worn.of_a_seat taker; not_a_reader = kept.entered.not_a_reader taker });
+        counted = counted_stays bounds gate taker to kept.counted refl;
+        shown = shown_with_seat shows bounds gate taker to kept.shown
+            (joined_is_shown shows gate.author s history (seat_is_shown shows bounds gate kept.shown taker) (kept.shown.prefixes.of_a_seat note));
+        entered = entered_stays bounds gate taker to kept.entered refl (reader_is_entered bounds gate kept.entered taker to refl holds);
       })
-      (at_set (λ (x : Seat M E). x.stage ≡ Note) spent gate.seats taker note to
+      (at_set (λ (x : Seat M I). x.stage ≡ Note) spent gate.seats taker note to
       (λ e. absurd (subst IsReader (ap (λ k. (seat_at gate k).stage) (sym e) ∙ is) holds)) (λ n. is) (λ past. is))
 
   -- every event that is allowed keeps what is kept
-  pub kept_step : (gate : Gate M E) (event : Event M E) → Kept shows limits gate → IsAllowed shows limits gate event → Kept shows limits (step limits gate event)
-  kept_step gate (Look seat) kept allowed = kept_look gate seat kept allowed
-  kept_step gate (Enter seat) kept allowed = kept_enter gate seat kept allowed
-  kept_step gate (Read seat word) kept allowed = kept
-  kept_step gate (Leave seat) kept allowed = kept_leave gate seat kept (seat_at gate seat).stage refl allowed
-  kept_step gate (Fill page at word) kept allowed = kept_fill gate page at word kept allowed
-  kept_step gate (Lay root word value) kept allowed = kept_lay gate root word value kept allowed
-  kept_step gate (Publish root entry) kept allowed = kept_publish gate root entry kept allowed
-  kept_step gate (Poll root) kept allowed = record {
-    counted = counted_poll limits gate root kept.counted allowed;
-    shown = shown_poll shows limits gate root kept.shown allowed;
-    entered = entered_poll gate root kept.entered allowed;
+  pub kept_step : (tree : ReachedPagesDecide) (gate : Gate M I) (event : Event M I) → Kept shows bounds gate → IsAllowed shows bounds gate event → Kept shows bounds (step bounds gate event)
+  kept_step tree gate (Look seat) kept allowed = kept_look gate seat kept allowed
+  kept_step tree gate (Enter seat) kept allowed = kept_enter gate seat kept allowed
+  kept_step tree gate (Read seat word) kept allowed = kept
+  kept_step tree gate (Leave seat) kept allowed = kept_leave gate seat kept (seat_at gate seat).stage refl
+  kept_step tree gate (Fill page at word) kept allowed = kept_fill tree gate page at word kept allowed
+  kept_step tree gate (Lay root word value) kept allowed = kept_lay gate root word value kept allowed
+  kept_step tree gate (Publish root item) kept allowed = kept_publish gate root item kept allowed
+  kept_step tree gate (Poll root) kept allowed = record {
+    counted = counted_poll bounds gate root kept.counted allowed;
+    shown = shown_poll shows bounds gate root kept.shown allowed;
+    entered = entered_poll bounds gate root kept.entered allowed;
   }
-  kept_step gate SeatOut kept allowed = kept_seat_out gate kept allowed
-  kept_step gate (NoteOut giver) kept allowed = kept_note_out gate giver kept
-  kept_step gate (SeatBack seat) kept allowed = kept_seat_back gate seat kept allowed
-  kept_step gate (NoteBack note taker) kept allowed = kept_note_back gate note taker kept allowed.0 allowed.1
-  kept_step gate (Tell taker) kept allowed = kept
+  kept_step tree gate SeatOut kept allowed = kept_seat_out gate kept allowed
+  kept_step tree gate (NoteOut giver) kept allowed = kept_note_out gate giver kept
+  kept_step tree gate (SeatBack seat) kept allowed = kept_seat_back gate seat kept allowed
+  kept_step tree gate (NoteBack note taker) kept allowed = kept_note_back gate note taker kept allowed.0 allowed.1
+  kept_step tree gate (Tell taker) kept allowed = kept

@@ -1,50 +1,40 @@
--- A sweep over all old roots finds each of them held or frees it, and so leaves a free root.
-use Rattle.std.proofs.Common.{◌≡◌, ◌≢◌, ◌⊎◌, ℕ, ◌<◌, ◌==◌, ◌||◌, Bool, true, false, List, [], ◌∷◌, ◌++◌, length, refl, sym, ap, subst, ◌∙◌, inl, inr, arith, eqb-true, true≢false}
+-- A sweep over old roots finds each of them held or frees it.
+use Rattle.std.proofs.Common.{◌≡◌, ◌≢◌, ◌⊎◌, ℕ, ◌<◌, ◌==◌, ◌||◌, Bool, true, false, T, List, [], ◌∷◌, ◌++◌, length, refl, sym, ap, subst, ◌∙◌, inl, inr, arith, append_assoc, append-nil, eqb-true, true≢false, get_or-set_same, get_or-set_other}
 use Rattle.std.proofs.lemmas.List.Folds.{list_any-append}
-use Rattle.std.proofs.lemmas.List.{get_or-set_same}
 use Rattle.std.specs.List.{AllByRecursion}
-use Rattle.dt_pages.specs.Reading.{Reading}
-use Rattle.dt_gate.specs.declared.event.Event.{Event}
-use Rattle.dt_gate.specs.declared.event.Event.TheVariants.{Poll}
-use Rattle.dt_gate.specs.declared.gate.Gate.{Gate}
+use Rattle.dt_gate.specs.declared.gate.Author.{Author}
 use Rattle.dt_gate.specs.declared.gate.Root.{Root}
 use Rattle.dt_gate.specs.declared.gate.Standing.TheVariants.{Old}
-use Rattle.dt_gate.specs.Gate.{Limits, IsLive, blank_root, root_at, is_old, IsOld}
-use Rattle.dt_gate.specs.Events.{with_root, is_new_sweep, after_poll, step}
-use Rattle.dt_gate.specs.Runs.{after, AreAllowed}
-use Rattle.dt_gate.specs.Sweeps.{AreDistinct, poll_of, polled_roots, IsOfSweep, IsSweep, SweepLeavesRoom, PollDecides}
-use Rattle.dt_gate.proofs.Kept.{Kept}
+use Rattle.dt_gate.specs.Gate.{IsLive, blank_root, root_at, is_old, IsOld, stands_in}
+use Rattle.dt_gate.specs.Author.{with_root, is_new_sweep, after_poll}
+use Rattle.dt_gate.specs.Sound.{AreDistinct}
+use Rattle.dt_gate.specs.Sweeps as sweep
+use Rattle.dt_gate.specs.Sweeps.{after_polls, AllOldAreHeld, MayBeginASweep, IsOfASweep, ReadDecides, SweepLeads}
 use Rattle.dt_gate.proofs.Lists.{at_change}
 use Rattle.dt_gate.proofs.Seats.{root_here}
 use Rattle.dt_gate.proofs.Roots.{old_is, freed_root, polled, polled_anew, poll_leads}
-use Rattle.dt_gate.proofs.Steps.{kept_step}
-use Rattle.dt_gate.proofs.Running.{kept_after}
-use Rattle.dt_gate.proofs.Room.{room}
-use Rattle.dt_gate.proofs.BetweenPolls.{IsLike, like_after, begins_like}
-use Rattle.dt_gate.proofs.Places.{stands_in, or_of, in_cons, in_head, in_tail, or_first, or_second}
+use Rattle.dt_gate.proofs.Places.{or_of, in_cons, in_head, in_tail, or_first, or_second}
 
 none_of_empty : (x : ℕ) (held : List ℕ) → (length held == 0) ≡ true → stands_in x held ≡ false
 none_of_empty x [] is = refl
 none_of_empty x (h ∷ held) is = let none : length (h ∷ held) ≡ 0 = eqb-true _ _ is in absurd (omega (arith, none))
 
-module _ {M E : Type 0} where
-  -- how far a sweep is: the roots that were polled, and what was found
-  pub record IsSweeping (begun : Gate M E) (done : List ℕ) (gate : Gate M E) : Type 0 where
-    pub old_are_held : (root : ℕ) → is_old (root_at gate root).standing ≡ true → stands_in root done ≡ true → stands_in root gate.held ≡ true
-    pub held_are_done : (root : ℕ) → stands_in root gate.held ≡ true → stands_in root done ≡ true
-    pub count : gate.sweep ≡ begun.out
-    pub out : gate.out ≡ begun.out
-    pub were_old : (root : ℕ) → is_old (root_at gate root).standing ≡ true → is_old (root_at begun root).standing ≡ true
+module _ {M I : Type 0} where
+  -- how far a sweep is, by the roots that were polled
+  pub record IsSweeping (begun : Author M I) (done : List ℕ) (author : Author M I) : Type 0 where
+    pub old_are_held : (root : ℕ) → is_old (root_at author root).standing ≡ true → stands_in root done ≡ true → stands_in root author.held ≡ true
+    pub held_are_done : (root : ℕ) → stands_in root author.held ≡ true → stands_in root done ≡ true
+    pub count : author.sweep ≡ begun.out
+    pub out : author.out ≡ begun.out
 
-  -- one root more, at a gate that the sweep has begun at: it is free
-  sweeping_frees : (begun : Gate M E) (done : List ℕ) (start : Gate M E) (root : ℕ) → root < length start.roots → IsSweeping begun done start
+  -- one root more, at an author whose sweep has begun: it is free
+  sweeping_frees : (begun : Author M I) (done : List ℕ) (start : Author M I) (root : ℕ) → root < length start.roots → IsSweeping begun done start
       → IsSweeping begun (root ∷ done) (with_root start root (freed_root start root))
   sweeping_frees begun done start root here so_far = record {
     old_are_held = λ x old is. so_far.old_are_held x (old_still x old).1 (not_other x (old_still x old).0 (in_cons root x done is));
     held_are_done = λ x held. in_tail root x done (so_far.held_are_done x held);
     count = so_far.count;
     out = so_far.out;
-    were_old = λ x old. so_far.were_old x (old_still x old).1;
   }
     where
       not_other : (x : ℕ) → x ≢ root → (root ≡ x) ⊎ (stands_in x done ≡ true) → stands_in x done ≡ true
@@ -56,14 +46,13 @@ module _ {M E : Type 0} where
           (λ e is. absurd (true≢false (sym is))) (λ n is. (n, is))
 
   -- or it is found held
-  sweeping_holds : (begun : Gate M E) (done : List ℕ) (start : Gate M E) (root : ℕ) → IsSweeping begun done start
+  sweeping_holds : (begun : Author M I) (done : List ℕ) (start : Author M I) (root : ℕ) → IsSweeping begun done start
       → IsSweeping begun (root ∷ done) (record start { held = start.held ++ root ∷ [] })
   sweeping_holds begun done start root so_far = record {
     old_are_held = λ x old is. list_any-append (λ h. h == x) start.held (root ∷ []) ∙ held_or_new x old (in_cons root x done is);
     held_are_done = λ x held. done_or_new x (or_of (stands_in x start.held) (stands_in x (root ∷ [])) (sym (list_any-append (λ h. h == x) start.held (root ∷ [])) ∙ held));
     count = so_far.count;
     out = so_far.out;
-    were_old = so_far.were_old;
   }
     where
       held_or_new : (x : ℕ) → is_old (root_at start x).standing ≡ true → (root ≡ x) ⊎ (stands_in x done ≡ true) → (stands_in x start.held || stands_in x (root ∷ [])) ≡ true
@@ -79,170 +68,211 @@ module _ {M E : Type 0} where
       done_or_new x (inr new) = is_root x (in_cons root x [] new)
 
   -- a poll, from where the sweep stands at its two possible starts
-  sweeping_poll : (begun : Gate M E) (done : List ℕ) (gate : Gate M E) (root : ℕ) → IsOld (root_at gate root).standing
-      → (is_new_sweep gate root ≡ true → IsSweeping begun done (polled_anew gate root))
-      → (is_new_sweep gate root ≡ false → IsSweeping begun done (polled gate root))
-      → IsSweeping begun (root ∷ done) (after_poll gate root)
-  sweeping_poll begun done gate root old anew on = poll_leads (IsSweeping begun (root ∷ done)) gate root old
-      (λ new entries is all_left. sweeping_frees begun done (polled_anew gate root) root (here entries is) (anew new))
-      (λ new entries is some_stay. sweeping_holds begun done (polled_anew gate root) root (anew new))
-      (λ goes entries is all_left. sweeping_frees begun done (polled gate root) root (here entries is) (on goes))
-      (λ goes entries is some_stay. sweeping_holds begun done (polled gate root) root (on goes))
+  sweeping_poll : (begun : Author M I) (done : List ℕ) (author : Author M I) (root exits : ℕ) → IsOld (root_at author root).standing
+      → (is_new_sweep author root ≡ true → IsSweeping begun done (polled_anew author root exits))
+      → (is_new_sweep author root ≡ false → IsSweeping begun done (polled author root exits))
+      → IsSweeping begun (root ∷ done) (after_poll author root exits)
+  sweeping_poll begun done author root exits old anew on = poll_leads (IsSweeping begun (root ∷ done)) author root exits old
+      (λ new entries is all_left. sweeping_frees begun done (polled_anew author root exits) root (here entries is) (anew new))
+      (λ new entries is some_stay. sweeping_holds begun done (polled_anew author root exits) root (anew new))
+      (λ goes entries is all_left. sweeping_frees begun done (polled author root exits) root (here entries is) (on goes))
+      (λ goes entries is some_stay. sweeping_holds begun done (polled author root exits) root (on goes))
     where
-      here : (entries : ℕ) → (root_at gate root).standing ≡ Old entries → root < length gate.roots
-      here entries is = root_here gate root (subst IsLive (sym is) tt)
+      here : (entries : ℕ) → (root_at author root).standing ≡ Old entries → root < length author.roots
+      here entries is = root_here author root (subst IsLive (sym is) tt)
 
   -- the first poll begins anew, with nothing polled and nothing found held
-  sweeping_first : (gate : Gate M E) (root : ℕ) → is_new_sweep gate root ≡ true → IsOld (root_at gate root).standing → IsSweeping gate (root ∷ []) (after_poll gate root)
-  sweeping_first gate root new old = sweeping_poll gate [] gate root old
-      (λ _. record { old_are_held = λ x x_old is. is; held_are_done = λ x held. held; count = refl; out = refl; were_old = λ x x_old. x_old })
+  sweeping_first : (author : Author M I) (root exits : ℕ) → is_new_sweep author root ≡ true → IsOld (root_at author root).standing → IsSweeping author (root ∷ []) (after_poll author root exits)
+  sweeping_first author root exits new old = sweeping_poll author [] author root exits old
+      (λ _. record { old_are_held = λ x x_old is. is; held_are_done = λ x held. held; count = refl; out = refl })
       (λ goes. absurd (true≢false (sym new ∙ goes)))
 
   -- a later one goes on, or begins anew where nothing is held
-  sweeping_next : (begun : Gate M E) (done : List ℕ) (gate : Gate M E) (root : ℕ) → IsSweeping begun done gate → stands_in root done ≡ false → IsOld (root_at gate root).standing
-      → IsSweeping begun (root ∷ done) (after_poll gate root)
-  sweeping_next begun done gate root so_far not_done old = sweeping_poll begun done gate root old
+  sweeping_next : (begun : Author M I) (done : List ℕ) (author : Author M I) (root exits : ℕ) → IsSweeping begun done author → stands_in root done ≡ false → IsOld (root_at author root).standing
+      → IsSweeping begun (root ∷ done) (after_poll author root exits)
+  sweeping_next begun done author root exits so_far not_done old = sweeping_poll begun done author root exits old
       (λ new. record {
         old_are_held = λ x x_old x_done. absurd (true≢false (sym (so_far.old_are_held x x_old x_done) ∙ empty new x));
         held_are_done = λ x held. absurd (true≢false (sym held));
         count = so_far.out;
         out = so_far.out;
-        were_old = so_far.were_old;
       })
-      (λ goes. record { old_are_held = so_far.old_are_held; held_are_done = so_far.held_are_done; count = so_far.count; out = so_far.out; were_old = so_far.were_old })
+      (λ goes. record { old_are_held = so_far.old_are_held; held_are_done = so_far.held_are_done; count = so_far.count; out = so_far.out })
     where
-      pick : (x : ℕ) → ((length gate.held == 0) ≡ true) ⊎ (stands_in root gate.held ≡ true) → stands_in x gate.held ≡ false
-      pick x (inl none) = none_of_empty x gate.held none
+      pick : (x : ℕ) → ((length author.held == 0) ≡ true) ⊎ (stands_in root author.held ≡ true) → stands_in x author.held ≡ false
+      pick x (inl none) = none_of_empty x author.held none
       pick x (inr held) = absurd (true≢false (sym (so_far.held_are_done root held) ∙ not_done))
 
-      empty : is_new_sweep gate root ≡ true → (x : ℕ) → stands_in x gate.held ≡ false
-      empty is x = pick x (or_of (length gate.held == 0) (stands_in root gate.held) is)
+      empty : is_new_sweep author root ≡ true → (x : ℕ) → stands_in x author.held ≡ false
+      empty is x = pick x (or_of (length author.held == 0) (stands_in root author.held) is)
 
-  -- an event between the polls
-  sweeping_like : (begun : Gate M E) (done : List ℕ) (gate next : Gate M E) → IsLike gate next → IsSweeping begun done gate → IsSweeping begun done next
-  sweeping_like begun done gate next like so_far = record {
-    old_are_held = λ root old is. subst (λ held. stands_in root held ≡ true) (sym like.held) (so_far.old_are_held root (was_old root old) is);
-    held_are_done = λ root held. so_far.held_are_done root (subst (λ held. stands_in root held ≡ true) like.held held);
-    count = like.sweep ∙ so_far.count;
-    out = like.out ∙ so_far.out;
-    were_old = λ root old. so_far.were_old root (was_old root old);
+  -- ---- one poll
+
+  -- a poll changes no other root
+  poll_leaves : (author : Author M I) (root exits x : ℕ) → IsOld (root_at author root).standing → x ≢ root → root_at (after_poll author root exits) x ≡ root_at author x
+  poll_leaves author root exits x old apart = poll_leads (λ next. root_at next x ≡ root_at author x) author root exits old
+      (λ new entries is all_left. freed) (λ new entries is some_stay. refl) (λ on entries is all_left. freed) (λ on entries is some_stay. refl)
+    where
+      freed : root_at (with_root author root (freed_root author root)) x ≡ root_at author x
+      freed = get_or-set_other author.roots root x (freed_root author root) blank_root apart
+
+  -- it is kept
+  poll_is_kept : (author : Author M I) (root exits : ℕ) → IsOld (root_at author root).standing → (after_poll author root exits).polls ≡ author.polls ++ (root, exits) ∷ []
+  poll_is_kept author root exits old = poll_leads (λ next. next.polls ≡ author.polls ++ (root, exits) ∷ []) author root exits old
+      (λ new entries is all_left. refl) (λ new entries is some_stay. refl) (λ on entries is all_left. refl) (λ on entries is some_stay. refl)
+
+  -- and it decides
+  poll_decides : (author : Author M I) (root exits : ℕ) → IsOld (root_at author root).standing → ReadDecides author (after_poll author root exits) (root, exits)
+  poll_decides author root exits old = poll_leads (λ next. ReadDecides author next (root, exits)) author root exits old
+      (λ new e is all_left. freed (polled_anew author root exits) e is all_left refl) (λ new e is some_stay. held e is some_stay)
+      (λ on e is all_left. freed (polled author root exits) e is all_left refl) (λ on e is some_stay. held e is some_stay)
+    where
+      freed : (start : Author M I) (e : ℕ) → (root_at author root).standing ≡ Old e → exits ≡ e → start.roots ≡ author.roots
+          → ReadDecides author (with_root start root (freed_root author root)) (root, exits)
+      freed start e is all_left same = record {
+        frees = λ entries was left. ap (λ (r : Root). r.standing) (get_or-set_same start.roots root (freed_root author root) blank_root
+            (subst (λ roots. root < length {A = Root} roots) (sym same) (root_here author root (subst IsLive (sym is) tt))));
+        holds = λ entries was some. absurd (some (all_left ∙ old_is (sym is ∙ was)));
+      }
+
+      held : (e : ℕ) → (root_at author root).standing ≡ Old e → exits ≢ e → {held : List ℕ} {sweep : ℕ}
+          → ReadDecides author (record (polled author root exits) { held = held; sweep = sweep }) (root, exits)
+      held e is some_stay = record { frees = λ entries was left. absurd (some_stay (left ∙ old_is (sym was ∙ is))); holds = λ entries was some. was }
+
+  -- ---- all polls
+
+  -- what later polls leave
+  pub record IsSwept (begun : Author M I) (done : List ℕ) (author : Author M I) (reads : List (ℕ × ℕ)) (next : Author M I) : Type 0 where
+    pub all_done : List ℕ
+    pub sweeping : IsSweeping begun all_done next
+    pub these : (root : ℕ) → stands_in root (sweep.polled reads) ≡ true → stands_in root all_done ≡ true
+    pub before : (root : ℕ) → stands_in root done ≡ true → stands_in root all_done ≡ true
+    pub polls : next.polls ≡ author.polls ++ reads
+    pub decides : AllByRecursion (ReadDecides author next) reads
+    pub others : (root : ℕ) → stands_in root (sweep.polled reads) ≡ false → root_at next root ≡ root_at author root
+
+  -- what was decided of roots that stood before as they stand at a later author
+  decided_before : (author later next : Author M I) (reads : List (ℕ × ℕ)) → ((root : ℕ) → stands_in root (sweep.polled reads) ≡ true → root_at later root ≡ root_at author root)
+      → AllByRecursion (ReadDecides later next) reads → AllByRecursion (ReadDecides author next) reads
+  decided_before author later next [] same all = tt
+  decided_before author later next (read ∷ reads) same all =
+      let was = ap (λ (r : Root). r.standing) (same read.0 (in_head read.0 read.0 (sweep.polled reads) refl)) in (
+        record { frees = λ entries is. all.0.frees entries (was ∙ is); holds = λ entries is. all.0.holds entries (was ∙ is) },
+        decided_before author later next reads (λ root is. same root (in_tail read.0 root (sweep.polled reads) is)) all.1,
+      )
+
+  -- one poll more before them
+  one_more : (begun : Author M I) (done : List ℕ) (author : Author M I) (read : ℕ × ℕ) (reads : List (ℕ × ℕ)) (next : Author M I) → IsOld (root_at author read.0).standing
+      → stands_in read.0 (sweep.polled reads) ≡ false → IsSwept begun (read.0 ∷ done) (after_poll author read.0 read.1) reads next → IsSwept begun done author (read ∷ reads) next
+  one_more begun done author read reads next old once rest = record {
+    all_done = rest.all_done;
+    sweeping = rest.sweeping;
+    these = λ root is. which root (in_cons read.0 root (sweep.polled reads) is);
+    before = λ root is. rest.before root (in_tail read.0 root done is);
+    polls = rest.polls ∙ ap (λ polls. polls ++ reads) (poll_is_kept author read.0 read.1 old) ∙ append_assoc author.polls (read ∷ []) reads;
+    decides = (
+      record { frees = λ entries is left. stays ∙ first.frees entries is left; holds = λ entries is some. stays ∙ first.holds entries is some },
+      decided_before author (after_poll author read.0 read.1) next reads (λ root is. poll_leaves author read.0 read.1 root old (apart root is)) rest.decides,
+    );
+    others = λ root is. rest.others root (second (read.0 == root) (stands_in root (sweep.polled reads)) is)
+        ∙ poll_leaves author read.0 read.1 root old (λ e. true≢false (sym (in_head read.0 root (sweep.polled reads) (sym e)) ∙ is));
   }
     where
-      was_old : (root : ℕ) → is_old (root_at next root).standing ≡ true → is_old (root_at gate root).standing ≡ true
-      was_old root old = subst (λ standing. is_old standing ≡ true) (like.standings root) old
+      first : ReadDecides author (after_poll author read.0 read.1) (read.0, read.1)
+      first = poll_decides author read.0 read.1 old
 
-  -- the whole sweep
-  pub record IsSwept (begun : Gate M E) (done roots : List ℕ) (gate : Gate M E) : Type 0 where
-    pub all_done : List ℕ
-    pub sweeping : IsSweeping begun all_done gate
-    pub these : (root : ℕ) → stands_in root roots ≡ true → stands_in root all_done ≡ true
-    pub before : (root : ℕ) → stands_in root done ≡ true → stands_in root all_done ≡ true
+      stays : (root_at next read.0).standing ≡ (root_at (after_poll author read.0 read.1) read.0).standing
+      stays = ap (λ (r : Root). r.standing) (rest.others read.0 once)
 
-  module _ (shows : Reading → List E → Type 0) (limits : Limits) where
-    swept_all : (events : List (Event M E)) (begun : Gate M E) (done : List ℕ) (gate : Gate M E) → IsSweeping begun done gate → AreDistinct (polled_roots events)
-        → ((root : ℕ) → stands_in root (polled_roots events) ≡ true → stands_in root done ≡ false) → AllByRecursion IsOfSweep events → AreAllowed shows limits gate events
-        → IsSwept begun done (polled_roots events) (after limits gate events)
-    swept_all [] begun done gate so_far distinct new of_sweep allowed = record { all_done = done; sweeping = so_far; these = λ root is. absurd (true≢false (sym is)); before = λ root is. is }
-    swept_all (Poll first ∷ events) begun done gate so_far distinct new of_sweep allowed =
-        let rest = swept_all events begun (first ∷ done) (after_poll gate first) (sweeping_next begun done gate first so_far (new first (in_head first first (polled_roots events) refl)) allowed.0)
-        distinct.1 later of_sweep.1 allowed.1 in
-        record {
-          all_done = rest.all_done;
-          sweeping = rest.sweeping;
-          these = λ root is. which rest root (in_cons first root (polled_roots events) is);
-          before = λ root is. rest.before root (in_tail first root done is);
-        }
-      where
-        later : (root : ℕ) → stands_in root (polled_roots events) ≡ true → stands_in root (first ∷ done) ≡ false
-        later root is = neither (first == root) (stands_in root done) (λ same. apart (eqb-true first root same)) (new root (in_tail first root (polled_roots events) is))
-          where
-            apart : ¬ (first ≡ root)
-            apart same = true≢false (sym is ∙ ap (λ k. stands_in k (polled_roots events)) (sym same) ∙ distinct.0)
+      apart : (root : ℕ) → stands_in root (sweep.polled reads) ≡ true → root ≢ read.0
+      apart root is e = true≢false (sym is ∙ ap (λ k. stands_in k (sweep.polled reads)) e ∙ once)
 
-            neither : (a b : Bool) → ¬ (a ≡ true) → b ≡ false → (a || b) ≡ false
-            neither true b n e = absurd (n refl)
-            neither false b n e = e
+      second : (a b : Bool) → (a || b) ≡ false → b ≡ false
+      second true b is = absurd (true≢false is)
+      second false b is = is
 
-        which : (rest : IsSwept begun (first ∷ done) (polled_roots events) (after limits (after_poll gate first) events)) (root : ℕ) → (first ≡ root) ⊎ (stands_in root (polled_roots events) ≡ true)
-            → stands_in root rest.all_done ≡ true
-        which rest root (inl same) = rest.before root (in_head first root done same)
-        which rest root (inr is) = rest.these root is
-    swept_all (event ∷ events) begun done gate so_far distinct new of_sweep allowed =
-        swept_all events begun done (step limits gate event) (sweeping_like begun done gate (step limits gate event) (like_after limits gate event of_sweep.0 refl) so_far)
-        distinct new of_sweep.1 allowed.1
+      which : (root : ℕ) → (read.0 ≡ root) ⊎ (stands_in root (sweep.polled reads) ≡ true) → stands_in root rest.all_done ≡ true
+      which root (inl same) = rest.before root (in_head read.0 root done same)
+      which root (inr is) = rest.these root is
 
-    -- from the first poll on
-    swept : (first : ℕ) (events : List (Event M E)) (gate : Gate M E) → Kept shows limits gate → IsSweep shows limits gate (Poll first ∷ events)
-        → SweepLeavesRoom limits (after limits gate (Poll first ∷ events))
-    swept first events gate kept sweep =
-        let all = swept_all events gate (first ∷ []) (after_poll gate first) (sweeping_first gate first sweep.anew sweep.allowed.0) sweep.each_once.1 later sweep.nothing_else.1 sweep.allowed.1 in
-        room shows limits next kept_next next.held (λ root is. all.sweeping.old_are_held root is (polled_once all root (in_cons first root (polled_roots events) (sweep.every_old_root root (all.sweeping.were_old root is)))))
-        (omega (arith, kept_next.counted.sweep.held, all.sweeping.count, all.sweeping.out))
-      where
-        next : Gate M E
-        next = after limits gate (Poll first ∷ events)
-
-        kept_next : Kept shows limits next
-        kept_next = kept_after shows limits (Poll first ∷ events) gate kept sweep.allowed
-
-        later : (root : ℕ) → stands_in root (polled_roots events) ≡ true → stands_in root (first ∷ []) ≡ false
-        later root is = neither (first == root) (λ same. true≢false (sym is ∙ ap (λ k. stands_in k (polled_roots events)) (sym (eqb-true first root same)) ∙ sweep.each_once.0))
-          where
-            neither : (a : Bool) → ¬ (a ≡ true) → (a || false) ≡ false
-            neither true n = absurd (n refl)
-            neither false n = refl
-
-        polled_once : (all : IsSwept gate (first ∷ []) (polled_roots events) next) (root : ℕ) → (first ≡ root) ⊎ (stands_in root (polled_roots events) ≡ true) → stands_in root all.all_done ≡ true
-        polled_once all root (inl same) = all.before root (in_head first root [] same)
-        polled_once all root (inr is) = all.these root is
-
-    -- an event that polls nothing leaves the rest of a sweep one
-    rest_of_sweep : (event : Event M E) (events : List (Event M E)) (gate : Gate M E) → poll_of event ≡ [] → IsSweep shows limits gate (event ∷ events)
-        → IsSweep shows limits (step limits gate event) events
-    rest_of_sweep (Poll root) events gate none sweep = absurd (poll_is_some none)
-      where
-        poll_is_some : ¬ (root ∷ [] ≡ [])
-        poll_is_some is = cc
-    rest_of_sweep event events gate none sweep =
-        let like = like_after limits gate event sweep.nothing_else.0 refl in
-        record {
-          allowed = sweep.allowed.1;
-          nothing_else = sweep.nothing_else.1;
-          each_once = sweep.each_once;
-          every_old_root = λ root is. sweep.every_old_root root (subst (λ standing. is_old standing ≡ true) (like.standings root) is);
-          anew = begins_like gate (step limits gate event) like (polled_roots events) sweep.anew;
-        }
-
-    pub sweep_leaves_room : (events : List (Event M E)) (gate : Gate M E) → Kept shows limits gate → IsSweep shows limits gate events → SweepLeavesRoom limits (after limits gate events)
-    sweep_leaves_room [] gate kept sweep = room shows limits gate kept [] sweep.every_old_root (omega arith)
-    sweep_leaves_room (Poll first ∷ events) gate kept sweep = swept first events gate kept sweep
-    sweep_leaves_room (event ∷ events) gate kept sweep =
-        sweep_leaves_room events (step limits gate event) (kept_step shows limits gate event kept sweep.allowed.0) (rest_of_sweep event events gate refl sweep)
-
--- a poll of an old root frees it, or finds it held
-module _ {M E : Type 0} where
-  pub poll_decides : (gate : Gate M E) (root entries : ℕ) → (root_at gate root).standing ≡ Old entries → PollDecides gate root entries (after_poll gate root)
-  poll_decides gate root entries old = poll_leads (PollDecides gate root entries) gate root (subst IsOld (sym old) tt)
-      (λ new e is all_left. freed e is all_left) (λ new e is some_stay. held [] e is some_stay)
-      (λ on e is all_left. freed e is all_left) (λ on e is some_stay. held gate.held e is some_stay)
+  -- roots to come are not polled yet, and still old
+  to_come : (author : Author M I) (read : ℕ × ℕ) (reads : List (ℕ × ℕ)) (done : List ℕ) → IsOld (root_at author read.0).standing → stands_in read.0 (sweep.polled reads) ≡ false
+      → ((root : ℕ) → stands_in root (sweep.polled reads) ≡ true → (stands_in root done ≡ false) × (is_old (root_at author root).standing ≡ true))
+      → (root : ℕ) → stands_in root (sweep.polled reads) ≡ true
+      → (stands_in root (read.0 ∷ done) ≡ false) × (is_old (root_at (after_poll author read.0 read.1) root).standing ≡ true)
+  to_come author read reads done old once before root is = (
+    neither (read.0 == root) (stands_in root done) (λ e. apart (sym (eqb-true read.0 root e))) (before root is).0,
+    ap (λ (r : Root). is_old r.standing) (poll_leaves author read.0 read.1 root old apart) ∙ (before root is).1,
+  )
     where
-      same : (e : ℕ) → (root_at gate root).standing ≡ Old e → e ≡ entries
-      same e is = old_is (sym is ∙ old)
+      apart : root ≢ read.0
+      apart e = true≢false (sym is ∙ ap (λ k. stands_in k (sweep.polled reads)) e ∙ once)
 
-      freed : (e : ℕ) → (root_at gate root).standing ≡ Old e → (root_at gate root).exits ≡ e → {held : List ℕ} {sweep : ℕ}
-          → PollDecides gate root entries (with_root (record (polled gate root) { held = held; sweep = sweep }) root (freed_root gate root))
-      freed e is all_left = record {
-        frees = λ _. ap (λ (r : Root). r.standing) (get_or-set_same gate.roots root (freed_root gate root) blank_root (root_here gate root (subst IsLive (sym old) tt)));
-        holds = λ n. absurd (n (all_left ∙ same e is));
-        finds_held = λ n. absurd (n (all_left ∙ same e is));
-        is_kept = refl;
-      }
+      neither : (a b : Bool) → ¬ (a ≡ true) → b ≡ false → (a || b) ≡ false
+      neither true b n e = absurd (n refl)
+      neither false b n e = e
 
-      held : (before : List ℕ) (e : ℕ) → (root_at gate root).standing ≡ Old e → (root_at gate root).exits ≢ e → {sweep : ℕ}
-          → PollDecides gate root entries (record (polled gate root) { held = before ++ root ∷ []; sweep = sweep })
-      held before e is some_stay = record {
-        frees = λ all_left. absurd (some_stay (all_left ∙ sym (same e is)));
-        holds = λ _. old;
-        finds_held = λ _. list_any-append (λ h. h == root) before (root ∷ []) ∙ or_second (stands_in root before) (stands_in root (root ∷ [])) (in_head root root [] refl);
-        is_kept = refl;
-      }
+  swept : (reads : List (ℕ × ℕ)) (begun : Author M I) (done : List ℕ) (author : Author M I) → IsSweeping begun done author → AreDistinct (sweep.polled reads)
+      → ((root : ℕ) → stands_in root (sweep.polled reads) ≡ true → (stands_in root done ≡ false) × (is_old (root_at author root).standing ≡ true))
+      → IsSwept begun done author reads (after_polls author reads)
+  swept [] begun done author so_far once new = record {
+    all_done = done;
+    sweeping = so_far;
+    these = λ root is. absurd (true≢false (sym is));
+    before = λ root is. is;
+    polls = sym (append-nil author.polls);
+    decides = tt;
+    others = λ root is. refl;
+  }
+  swept (read ∷ reads) begun done author so_far once new =
+      let first = new read.0 (in_head read.0 read.0 (sweep.polled reads) refl) in
+      let old : IsOld (root_at author read.0).standing = subst T (sym first.1) tt in
+      one_more begun done author read reads (after_polls (after_poll author read.0 read.1) reads) old once.0
+      (swept reads begun (read.0 ∷ done) (after_poll author read.0 read.1) (sweeping_next begun done author read.0 read.1 so_far first.0 old) once.1
+      (to_come author read reads done old once.0 (λ root is. new root (in_tail read.0 root (sweep.polled reads) is))))
+
+  -- where every old root was polled, each that is still old is held
+  whole_sweep : (author next : Author M I) (reads : List (ℕ × ℕ))
+      → ((root : ℕ) → is_old (root_at next root).standing ≡ true → stands_in root (sweep.polled reads) ≡ true → stands_in root next.held ≡ true)
+      → ((root : ℕ) → stands_in root (sweep.polled reads) ≡ false → root_at next root ≡ root_at author root)
+      → ((root : ℕ) → is_old (root_at author root).standing ≡ true → stands_in root (sweep.polled reads) ≡ true) → AllOldAreHeld next
+  whole_sweep author next reads held others every root old = go (stands_in root (sweep.polled reads)) refl
+    where
+      go : (polled : Bool) → stands_in root (sweep.polled reads) ≡ polled → stands_in root next.held ≡ true
+      go true is = held root old is
+      go false is = absurd (true≢false (sym (every root (ap (λ (r : Root). is_old r.standing) (sym (others root is)) ∙ old)) ∙ is))
+
+  pub sweep_leads : (author : Author M I) (reads : List (ℕ × ℕ)) → IsOfASweep author reads → SweepLeads author reads (after_polls author reads)
+  sweep_leads author [] part = record {
+    polls = sym (append-nil author.polls);
+    decides = tt;
+    held_or_to_come = λ root old is. absurd (true≢false (sym is));
+    others = λ root is. refl;
+    whole = whole_sweep author author [] (λ root old is. absurd (true≢false (sym is))) (λ root is. refl);
+    count = inl refl;
+    out = refl;
+  }
+  sweep_leads author (read ∷ reads) part = record {
+    polls = all.polls;
+    decides = all.decides;
+    held_or_to_come = λ root old is. all.sweeping.old_are_held root old (all.these root is);
+    others = all.others;
+    whole = whole_sweep author (after_polls author (read ∷ reads)) (read ∷ reads) (λ root old is. all.sweeping.old_are_held root old (all.these root is)) all.others;
+    count = inr all.sweeping.count;
+    out = all.sweeping.out;
+  }
+    where
+      first_old : is_old (root_at author read.0).standing ≡ true
+      first_old = part.old read.0 (in_head read.0 read.0 (sweep.polled reads) refl)
+
+      old : IsOld (root_at author read.0).standing
+      old = subst T (sym first_old) tt
+
+      begins : MayBeginASweep author → is_new_sweep author read.0 ≡ true
+      begins (inl none) = or_first (length author.held == 0) (stands_in read.0 author.held) (ap (λ held. length {A = ℕ} held == 0) none)
+      begins (inr each) = or_second (length author.held == 0) (stands_in read.0 author.held) (each read.0 first_old)
+
+      all : IsSwept author [] author (read ∷ reads) (after_polls author (read ∷ reads))
+      all = one_more author [] author read reads (after_polls (after_poll author read.0 read.1) reads) old part.once.0
+          (swept reads author (read.0 ∷ []) (after_poll author read.0 read.1) (sweeping_first author read.0 read.1 (begins part.begins) old) part.once.1
+          (to_come author read reads [] old part.once.0 (λ root is. (refl, part.old root (in_tail read.0 root (sweep.polled reads) is)))))

@@ -1,17 +1,16 @@
 -- Runs, worked out.
-use Rattle.std.specs.Prelude.{◌≡◌, ℕ, List, [], ◌∷◌, ◌++◌, length, None, refl}
+use Rattle.std.specs.Prelude.{◌≡◌, ℕ, List, [], ◌∷◌, ◌++◌, length, refl}
 use Rattle.dt_pages.specs.Reading.{Reading}
 use Rattle.dt_gate.specs.declared.event.Event.{Event}
 use Rattle.dt_gate.specs.declared.event.Event.TheVariants.{Look, Enter, Read, Leave, Fill, Lay, Publish, Poll, SeatOut, NoteOut, SeatBack, NoteBack, Tell}
-use Rattle.dt_gate.specs.declared.event.Holder.TheVariants.{Author, Reader}
+use Rattle.dt_gate.specs.declared.event.Holder.TheVariants as holder
 use Rattle.dt_gate.specs.declared.event.ReadWord.TheVariants.{Top, Page}
 use Rattle.dt_gate.specs.declared.event.RecordWord.TheVariants as laid
 use Rattle.dt_gate.specs.declared.gate.Gate.{Gate}
 use Rattle.dt_gate.specs.declared.gate.Stage.TheVariants.{Out, Spent}
 use Rattle.dt_gate.specs.declared.gate.Standing.TheVariants.{Free, Now, Old}
-use Rattle.dt_gate.specs.Gate.{Limits, limits_of, root_at, seat_at, fresh}
+use Rattle.dt_gate.specs.Gate.{Bounds, bounds_of, root_at, seat_at, fresh}
 use Rattle.dt_gate.specs.Readers.{word_now}
-use Rattle.dt_gate.specs.Events.{IsAllowed, longer}
 use Rattle.dt_gate.specs.Runs.{after, AreAllowed}
 use Rattle.dt_gate.specs.WrongMachines.{small, start, anything, laying, one_inside_an_old_root}
 
@@ -26,16 +25,16 @@ polled_free = polled_held ++ Leave 0 ∷ Poll 0 ∷ []
 -- the old root is found held while the reader is inside, and is free once it has left
 pub record OldRootIsFreed : Type 0 where
   pub allowed : AreAllowed anything small start polled_free
-  pub still_old : (root_at (after small start polled_held) 0).standing ≡ Old 1
-  pub found_held : (after small start polled_held).held ≡ 0 ∷ []
-  pub then_free : (root_at (after small start polled_free) 0).standing ≡ Free
-  pub other_is_current : (root_at (after small start polled_free) 1).standing ≡ Now
-  pub polls : (after small start polled_free).polls ≡ (0, 0) ∷ (0, 1) ∷ []
-  pub history : (after small start polled_free).history ≡ 7 ∷ []
+  pub still_old : (root_at (after small start polled_held).author 0).standing ≡ Old 1
+  pub found_held : (after small start polled_held).author.held ≡ 0 ∷ []
+  pub then_free : (root_at (after small start polled_free).author 0).standing ≡ Free
+  pub other_is_current : (root_at (after small start polled_free).author 1).standing ≡ Now
+  pub polls : (after small start polled_free).author.polls ≡ (0, 0) ∷ (0, 1) ∷ []
+  pub history : (after small start polled_free).author.history ≡ 7 ∷ []
 
 -- three readers, and a limit of two entries
-abbrev pub three_readers : Limits
-three_readers = limits_of 3 16 2
+abbrev pub three_readers : Bounds
+three_readers = bounds_of 3 16 2
 
 -- the fresh gate of these
 abbrev pub begun : Gate ℕ ℕ
@@ -57,9 +56,9 @@ pub record PastTheLimit : Type 0 where
   pub worn : (seat_at (after three_readers begun one_looks_again) 0).worn ≡ (0, 3) ∷ []
   pub entered : (seat_at (after three_readers begun one_looks_again) 0).entered ≡ 0 ∷ []
 
--- a meaning with a content: the word at address 0 is the number of entries
+-- a meaning with a content: the word at address 0 is the number of items
 abbrev pub counted : Reading → List ℕ → Type 0
-counted reading entries = reading 0 ≡ length entries
+counted reading items = reading 0 ≡ length items
 
 -- one page of each level is filled, so that address 0 has the word 1; a root is laid with the first as its top page, and published
 abbrev pub filled_and_published : List (Event ℕ ℕ)
@@ -69,17 +68,17 @@ filled_and_published = Fill 1 0 2 ∷ Fill 2 0 3 ∷ Fill 3 0 1 ∷ laying 1 ++ 
 abbrev pub read_down : List (Event ℕ ℕ)
 read_down = filled_and_published ++ SeatOut ∷ Look 0 ∷ Enter 0 ∷ Read 0 Top ∷ Read 0 (Page 1 0) ∷ Read 0 (Page 2 0) ∷ Read 0 (Page 3 0) ∷ []
 
--- what was filled is read, and counts the entries
+-- what was filled is read, and counts the items
 pub record PagesAreRead : Type 0 where
   pub allowed : AreAllowed counted small start read_down
-  pub top : word_now (after small start read_down) 1 Top ≡ 1
-  pub middle : word_now (after small start read_down) 1 (Page 1 0) ≡ 2
-  pub leaf : word_now (after small start read_down) 1 (Page 2 0) ≡ 3
-  pub word : word_now (after small start read_down) 1 (Page 3 0) ≡ 1
+  pub top : word_now (after small start read_down).author 1 Top ≡ 1
+  pub middle : word_now (after small start read_down).author 1 (Page 1 0) ≡ 2
+  pub leaf : word_now (after small start read_down).author 1 (Page 2 0) ≡ 3
+  pub word : word_now (after small start read_down).author 1 (Page 3 0) ≡ 1
 
 -- a version is published, and a reader that hasn't looked hears of it by a note of the author
 abbrev pub told_by_a_note : List (Event ℕ ℕ)
-told_by_a_note = SeatOut ∷ laying 0 ++ Publish 1 7 ∷ NoteOut Author ∷ NoteBack 1 (Reader 0) ∷ Tell (Reader 0) ∷ []
+told_by_a_note = SeatOut ∷ laying 0 ++ Publish 1 7 ∷ NoteOut holder.Author ∷ NoteBack 1 (holder.Reader 0) ∷ Tell (holder.Reader 0) ∷ []
 
 -- the reader has the author's history, and keeps both; the note is spent
 pub record NoteTellsHistory : Type 0 where
@@ -90,72 +89,41 @@ pub record NoteTellsHistory : Type 0 where
 
 -- a reader enters once, looks once more at the limit, and is given back
 abbrev pub given_back : List (Event ℕ ℕ)
-given_back = SeatOut ∷ Look 0 ∷ Enter 0 ∷ Leave 0 ∷ Look 0 ∷ SeatBack 0 ∷ Tell Author ∷ []
+given_back = SeatOut ∷ Look 0 ∷ Enter 0 ∷ Leave 0 ∷ Look 0 ∷ SeatBack 0 ∷ Tell holder.Author ∷ []
 
 -- the author has what the reader entered and its worn look, and no reader is out
 pub record SeatIsTakenBack : Type 0 where
   pub allowed : AreAllowed anything small start given_back
-  pub out : (after small start given_back).out ≡ 0
-  pub taken : (after small start given_back).taken ≡ (0 ∷ []) ∷ []
-  pub worn : (after small start given_back).worn ≡ ((0, 1) ∷ []) ∷ []
+  pub out : (after small start given_back).author.out ≡ 0
+  pub taken : (after small start given_back).author.taken ≡ (0 ∷ []) ∷ []
+  pub worn : (after small start given_back).author.worn ≡ ((0, 1) ∷ []) ∷ []
 
--- ---- one event at a time
+-- ---- two roots are held in one sweep
 
 -- a root is laid and published
 abbrev published : List (Event ℕ ℕ)
 published = laying 0 ++ Publish 1 7 ∷ []
 
-no_entry_of_the_new_version : (after small start published).entries ≡ 0
-no_entry_of_the_new_version = refl
-
--- a root that was published must be laid anew before it is published again
-what_was_laid_is_used_up : (root_at (after small start published) 1).laid.exits ≡ None
-what_was_laid_is_used_up = refl
-
-a_root_that_was_not_laid : IsAllowed anything small start (Publish 1 7) → ⊥
-a_root_that_was_not_laid allowed = let no_exit = allowed.no_exit in cc
-
-a_seat_starts_with_the_history_of_the_author : (seat_at (after small start (published ++ SeatOut ∷ [])) 0).history ≡ 7 ∷ []
-a_seat_starts_with_the_history_of_the_author = refl
-
-the_author_joins_its_own_history_and_the_seats :
-    (after small start (published ++ SeatOut ∷ SeatBack 0 ∷ [])).joined ≡ (7 ∷ [], 7 ∷ [])
-the_author_joins_its_own_history_and_the_seats = refl
-
-a_seat_that_was_given_back_is_blank : (seat_at (after small start given_back) 0).entered ≡ []
-a_seat_that_was_given_back_is_blank = refl
-
-one_root_is_held : (after small start polled_held).sweep ≡ 1
-one_root_is_held = refl
-
-no_root_is_held_any_more : (after small start polled_free).held ≡ []
-no_root_is_held_any_more = refl
-
-the_longer_history : longer {E = ℕ} (1 ∷ 2 ∷ []) (1 ∷ []) ≡ 1 ∷ 2 ∷ []
-the_longer_history = refl
-
--- ---- two roots are held in one sweep
-
 -- two readers, and a limit of two entries
-abbrev two_readers : Limits
-two_readers = limits_of 2 16 2
+abbrev two_readers : Bounds
+two_readers = bounds_of 2 16 2
 
 -- each of two readers is inside a root of its own, both roots are old, and both are polled
 abbrev two_inside : List (Event ℕ ℕ)
 two_inside = SeatOut ∷ SeatOut ∷ Look 0 ∷ Enter 0 ∷ published ++ Look 1 ∷ Enter 1
     ∷ Lay 2 laid.Exits 0 ∷ Lay 2 laid.Version 2 ∷ Lay 2 laid.Top 0 ∷ Publish 2 8 ∷ Poll 0 ∷ Poll 1 ∷ []
 
-both_are_held : (after two_readers (fresh {M = ℕ} two_readers) two_inside).held ≡ 0 ∷ 1 ∷ []
+both_are_held : (after two_readers (fresh {M = ℕ} two_readers) two_inside).author.held ≡ 0 ∷ 1 ∷ []
 both_are_held = refl
 
-as_many_as_readers : (after two_readers (fresh {M = ℕ} two_readers) two_inside).sweep ≡ 2
+as_many_as_readers : (after two_readers (fresh {M = ℕ} two_readers) two_inside).author.sweep ≡ 2
 as_many_as_readers = refl
 
 -- ---- worn by another reader
 
 -- two readers, and a limit of one entry
-abbrev one_entry : Limits
-one_entry = limits_of 2 16 1
+abbrev one_entry : Bounds
+one_entry = bounds_of 2 16 1
 
 -- a reader uses up the one entry of version 1, and another looks for the first time
 abbrev worn_at_first : List (Event ℕ ℕ)

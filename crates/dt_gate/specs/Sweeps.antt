@@ -1,77 +1,78 @@
--- What a sweep over all old roots leaves, whatever readers do between its polls.
-use Rattle.std.specs.Prelude.{◌≡◌, ◌≢◌, ℕ, ◌+◌, ◌<◌, ◌≤◌, ◌==◌, true, false, List, [], ◌∷◌, ◌++◌, count_by, ⊤}
-use Rattle.std.specs.List.{list_any, AllByRecursion}
+-- Sweeps: the author polls each old root once. All of this but the room that a sweep leaves speaks of the author's record alone,
+-- so it holds whatever readers do between the polls.
+use Rattle.std.specs.Prelude.{◌≡◌, ◌≢◌, ◌⊎◌, ℕ, ◌+◌, ◌<◌, ◌≤◌, true, false, List, [], ◌∷◌, ◌++◌, length, map}
+use Rattle.std.specs.List.{AllByRecursion}
 use Rattle.dt_pages.specs.Reading.{Reading}
-use Rattle.dt_gate.specs.declared.event.Event.{Event}
-use Rattle.dt_gate.specs.declared.event.Event.TheVariants.{Publish, Poll, SeatOut, SeatBack}
+use Rattle.dt_gate.specs.declared.gate.Author.{Author}
 use Rattle.dt_gate.specs.declared.gate.Gate.{Gate}
 use Rattle.dt_gate.specs.declared.gate.Standing.TheVariants.{Free, Old}
-use Rattle.dt_gate.specs.Gate.{Limits, root_at, is_old}
-use Rattle.dt_gate.specs.Events.{is_new_sweep, step}
-use Rattle.dt_gate.specs.Runs.{after, AreAllowed, IsReached}
+use Rattle.dt_gate.specs.Gate.{Bounds, is_old, stands_in, root_at}
+use Rattle.dt_gate.specs.Author.{after_poll}
+use Rattle.dt_gate.specs.Counts.{old_roots}
+use Rattle.dt_gate.specs.Sound.{AreDistinct}
+use Rattle.dt_gate.specs.Runs.{IsReached}
 
--- each root stands in the list once
-abbrev pub AreDistinct : List ℕ → Type 0
-AreDistinct [] = ⊤
-AreDistinct (root ∷ roots) = (list_any (λ other. other == root) roots ≡ false) × AreDistinct roots
+-- the roots that were polled
+abbrev pub polled : List (ℕ × ℕ) → List ℕ
+polled reads = map (λ read. read.0) reads
 
-module _ {M E : Type 0} where
-  -- the root that an event polls
-  abbrev pub poll_of : Event M E → List ℕ
-  poll_of (Poll root) = root ∷ []
-  poll_of event = []
+module _ {M I : Type 0} where
+  -- the author after it polled these roots one after the other, and read these exits
+  abbrev pub after_polls : Author M I → List (ℕ × ℕ) → Author M I
+  after_polls author [] = author
+  after_polls author (read ∷ reads) = after_polls (after_poll author read.0 read.1) reads
 
-  -- the roots that these events poll, in their order
-  abbrev pub polled_roots : List (Event M E) → List ℕ
-  polled_roots [] = []
-  polled_roots (event ∷ events) = poll_of event ++ polled_roots events
+  -- every old root is found held
+  abbrev pub AllOldAreHeld : Author M I → Type 0
+  AllOldAreHeld author =
+      (root : ℕ) → is_old (root_at author root).standing ≡ true → stands_in root author.held ≡ true
 
-  -- the event publishes nothing, and gives no reader seat out or back: so it may stand in a sweep, beside the polls
-  abbrev pub IsOfSweep : Event M E → Type 0
-  IsOfSweep (Publish root entry) = ⊥
-  IsOfSweep SeatOut = ⊥
-  IsOfSweep (SeatBack seat) = ⊥
-  IsOfSweep event = ⊤
+  -- a sweep may begin: nothing is found held, as after a publish, or every old root is, as after a sweep
+  abbrev pub MayBeginASweep : Author M I → Type 0
+  MayBeginASweep author = (author.held ≡ []) ⊎ AllOldAreHeld author
 
-  -- the first poll begins a new sweep
-  abbrev pub BeginsAnew : Gate M E → List ℕ → Type 0
-  BeginsAnew gate [] = ⊤
-  BeginsAnew gate (root ∷ roots) = is_new_sweep gate root ≡ true
+  -- a sweep, or a part of one: it polled these roots and read these exits; all were old, and each was polled once
+  pub record IsOfASweep (author : Author M I) (reads : List (ℕ × ℕ)) : Type 0 where
+    pub begins : MayBeginASweep author
+    pub old : (root : ℕ) → stands_in root (polled reads) ≡ true → is_old (root_at author root).standing ≡ true
+    pub once : AreDistinct (polled reads)
 
-  -- how many roots are old
-  abbrev pub old_roots : Gate M E → ℕ
-  old_roots gate = count_by (λ root. is_old root.standing) gate.roots
+  -- what was read of an old root decides: it is free where the exits are its final entries, and else old as it was
+  pub record ReadDecides (author next : Author M I) (read : ℕ × ℕ) : Type 0 where
+    pub frees : (entries : ℕ) → (root_at author read.0).standing ≡ Old entries → read.1 ≡ entries
+        → (root_at next read.0).standing ≡ Free
+    pub holds : (entries : ℕ) → (root_at author read.0).standing ≡ Old entries → read.1 ≢ entries
+        → (root_at next read.0).standing ≡ Old entries
 
-  -- a sweep polls each old root once, and begins anew with its first poll; readers may step between the polls
-  pub record IsSweep (shows : Reading → List E → Type 0) (limits : Limits) (gate : Gate M E)
-      (events : List (Event M E)) : Type 0 where
-    pub allowed : AreAllowed shows limits gate events
-    pub nothing_else : AllByRecursion IsOfSweep events
-    pub each_once : AreDistinct (polled_roots events)
-    pub every_old_root : (root : ℕ) → is_old (root_at gate root).standing ≡ true
-        → list_any (λ other. other == root) (polled_roots events) ≡ true
-    pub anew : BeginsAnew gate (polled_roots events)
+  -- where it leads: each poll is kept, once; each read decides; every old root is found held or not yet polled;
+  -- the other roots are as they were; where every old root was polled, each that is still old is held;
+  -- and the count of the sweep is that of the readers out, which stay
+  pub record SweepLeads (author : Author M I) (reads : List (ℕ × ℕ)) (next : Author M I) : Type 0 where
+    pub polls : next.polls ≡ author.polls ++ reads
+    pub decides : AllByRecursion (ReadDecides author next) reads
+    pub held_or_to_come : (root : ℕ) → is_old (root_at next root).standing ≡ true
+        → stands_in root (polled reads) ≡ true → stands_in root next.held ≡ true
+    pub others : (root : ℕ) → stands_in root (polled reads) ≡ false → root_at next root ≡ root_at author root
+    pub whole : ((root : ℕ) → is_old (root_at author root).standing ≡ true → stands_in root (polled reads) ≡ true)
+        → AllOldAreHeld next
+    pub count : (reads ≡ []) ⊎ (next.sweep ≡ author.out)
+    pub out : next.out ≡ author.out
 
-  -- the roots that are still old are no more than the readers out, and some root is free
-  pub record SweepLeavesRoom (limits : Limits) (gate : Gate M E) : Type 0 where
-    pub still_old : old_roots gate ≤ gate.out
-    pub some_free : (root : ℕ) × (root < limits.readers + 2) × ((root_at gate root).standing ≡ Free)
+  -- no more roots are old than were found held, which are no more than the count of the sweep, and so no more than readers;
+  -- and some root is free
+  pub record LeavesRoom (bounds : Bounds) (author : Author M I) : Type 0 where
+    pub still_old : old_roots author ≤ length author.held
+    pub held : length author.held ≤ author.sweep
+    pub count : author.sweep ≤ bounds.readers
+    pub some_free : (root : ℕ) × (root < bounds.readers + 2) × ((root_at author root).standing ≡ Free)
 
-  -- what a poll of an old root leads to
-  pub record PollDecides (gate : Gate M E) (root entries : ℕ) (next : Gate M E) : Type 0 where
-    pub frees : (root_at gate root).exits ≡ entries → (root_at next root).standing ≡ Free
-    pub holds : (root_at gate root).exits ≢ entries → (root_at next root).standing ≡ Old entries
-    pub finds_held : (root_at gate root).exits ≢ entries → list_any (λ held. held == root) next.held ≡ true
-    pub is_kept : next.polls ≡ gate.polls ++ (root, (root_at gate root).exits) ∷ []
+-- every sweep leads there, whatever exits it reads
+abbrev pub SweepsLead : (M I : Type 0) → Type 0
+SweepsLead M I = (author : Author M I) (reads : List (ℕ × ℕ)) → IsOfASweep author reads
+    → SweepLeads author reads (after_polls author reads)
 
--- a poll frees an old root exactly where its exits are its final entries; else the root stays old, and is found held
-abbrev pub PollsDecide : (M E : Type 0) → Limits → Type 0
-PollsDecide M E limits = (gate : Gate M E) (root entries : ℕ) → (root_at gate root).standing ≡ Old entries
-    → PollDecides gate root entries (step limits gate (Poll root))
-
-module _ (M : Type 0) {E : Type 0} (shows : Reading → List E → Type 0) (limits : Limits) where
-  -- every sweep leaves a free root, whatever readers do between its polls
+module _ (M : Type 0) {I : Type 0} (shows : Reading → List I → Type 0) (bounds : Bounds) where
+  -- where every old root of a gate that is reached is found held, there is room
   abbrev pub SweepsLeaveRoom : Type 0
-  SweepsLeaveRoom = (gate : Gate M E) (events : List (Event M E)) → IsReached shows limits gate
-      → IsSweep shows limits gate events
-      → SweepLeavesRoom limits (after limits gate events)
+  SweepsLeaveRoom = (gate : Gate M I) → IsReached shows bounds gate → AllOldAreHeld gate.author
+      → LeavesRoom bounds gate.author

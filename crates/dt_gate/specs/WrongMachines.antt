@@ -1,6 +1,6 @@
 -- Five machines that differ from this one in one event, each with a run that breaks soundness.
-use Rattle.std.specs.Prelude.{◌≡◌, ◌≢◌, ◌⊎◌, ℕ, ◌<◌, List, [], ◌∷◌, ◌++◌, ⊤}
-use Rattle.dt_pages.specs.Reading.{Reading}
+use Rattle.std.specs.Prelude.{◌≡◌, ◌≢◌, ◌⊎◌, ℕ, ◌<◌, List, [], ◌∷◌, ◌++◌, slice_set, ⊤}
+use Rattle.dt_pages.specs.Reading.{Reading, page_words}
 use Rattle.dt_gate.specs.declared.event.Event.{Event}
 use Rattle.dt_gate.specs.declared.event.Event.TheVariants.{Look, Enter, Leave, Fill, Lay, Publish, Poll, SeatOut}
 use Rattle.dt_gate.specs.declared.event.RecordWord.TheVariants.{Exits, Version, Top}
@@ -8,14 +8,15 @@ use Rattle.dt_gate.specs.declared.gate.Gate.{Gate}
 use Rattle.dt_gate.specs.declared.gate.Stage.TheVariants.{Out, Near}
 use Rattle.dt_gate.specs.declared.gate.Standing.{Standing}
 use Rattle.dt_gate.specs.declared.gate.Standing.TheVariants.{Free, Now, Old}
-use Rattle.dt_gate.specs.Gate.{Limits, limits_of, root_at, seat_at, fresh}
-use Rattle.dt_gate.specs.Events.{with_root, after_publish, IsAllowed, step}
+use Rattle.dt_gate.specs.Gate.{Bounds, bounds_of, root_at, seat_at, fresh}
+use Rattle.dt_gate.specs.Author.{with_root, after_publish}
+use Rattle.dt_gate.specs.Events.{IsAllowed, step}
 use Rattle.dt_gate.specs.Sound.{IsSound}
 use Rattle.dt_gate.specs.Runs.{after, AreAllowed}
 
--- the runs are of one reader, sixteen pages and a limit of one entry; entries of the history are numbers
-abbrev pub small : Limits
-small = limits_of 1 16 1
+-- the runs are of one reader, sixteen pages and a limit of one entry; the items of the history are numbers
+abbrev pub small : Bounds
+small = bounds_of 1 16 1
 
 -- the fresh gate of these
 abbrev pub start : Gate ℕ ℕ
@@ -23,7 +24,7 @@ start = fresh small
 
 -- a meaning by which every reading shows every list
 abbrev pub anything : Reading → List ℕ → Type 0
-anything reading entries = ⊤
+anything reading items = ⊤
 
 -- the author lays root 1 with version 1 and this top page
 abbrev pub laying : ℕ → List (Event ℕ ℕ)
@@ -35,8 +36,11 @@ one_inside_and_laid = SeatOut ∷ Look 0 ∷ Enter 0 ∷ laying 0
 
 -- Publish makes the current root old. This one frees it at once.
 abbrev pub publish_that_frees : Gate ℕ ℕ → ℕ → ℕ → Gate ℕ ℕ
-publish_that_frees gate root entry =
-    with_root (after_publish gate root entry) gate.current (record (root_at gate gate.current) { standing = Free })
+publish_that_frees gate root item = record gate {
+  entries = 0;
+  author = with_root (after_publish gate.author root item gate.entries) gate.author.current
+      (record (root_at gate.author gate.author.current) { standing = Free });
+}
 
 -- a run after which it breaks soundness: the reader is inside a free root
 pub record FreesAtOnce : Type 0 where
@@ -46,8 +50,7 @@ pub record FreesAtOnce : Type 0 where
 
 -- Publish takes the entries out as it stores. This one loads them first, and stores later.
 abbrev pub publish_by_store : ℕ → Gate ℕ ℕ → ℕ → ℕ → Gate ℕ ℕ
-publish_by_store loaded gate root entry =
-    with_root (after_publish gate root entry) gate.current (record (root_at gate gate.current) { standing = Old loaded })
+publish_by_store loaded gate root item = record gate { entries = 0; author = after_publish gate.author root item loaded }
 
 -- the reader is near as the author loads, and enters before the author stores
 abbrev pub near_and_laid : List (Event ℕ ℕ)
@@ -63,8 +66,7 @@ pub record LoadsThenStores : Type 0 where
 
 -- Poll loads the exits of an old root. This one stores there what it waits for.
 abbrev pub poll_that_drains : Gate ℕ ℕ → ℕ → Standing → Gate ℕ ℕ
-poll_that_drains gate root (Old entries) =
-    with_root gate root (record (root_at gate root) { exits = entries })
+poll_that_drains gate root (Old entries) = record gate { exits = slice_set gate.exits root entries }
 poll_that_drains gate root Free = gate
 poll_that_drains gate root Now = gate
 
@@ -77,7 +79,7 @@ pub record DrainsExits : Type 0 where
   pub before : AreAllowed anything small start one_inside_an_old_root
   pub poll : IsAllowed anything small (after small start one_inside_an_old_root) (Poll 0)
   pub breaks : ¬ IsSound anything small
-      (poll_that_drains (after small start one_inside_an_old_root) 0 (root_at (after small start one_inside_an_old_root) 0).standing)
+      (poll_that_drains (after small start one_inside_an_old_root) 0 (root_at (after small start one_inside_an_old_root).author 0).standing)
 
 -- Enter is allowed to a seat that is near. This one is allowed to a seat that is out as well,
 -- so no look need stand before it.
@@ -102,7 +104,7 @@ pub record EntersWithoutALook : Type 0 where
 
 -- Fill is allowed where no live root reaches the page. This one is allowed at every page but page 0.
 abbrev pub IsAllowedAnywhere : ℕ → ℕ → Type 0
-IsAllowedAnywhere page at = (page ≢ 0) × (page < small.pages) × (at < 512)
+IsAllowedAnywhere page at = (page ≢ 0) × (page < small.pages) × (at < page_words)
 
 -- a reader is inside a root whose top page is page 1
 abbrev pub inside_page_one : List (Event ℕ ℕ)

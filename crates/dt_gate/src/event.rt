@@ -33,7 +33,7 @@ pub enum Holder {
     Reader(u64),
 }
 
-/// One atomic step.
+/// One atomic step. `Access` says what it does to the words of the store.
 pub enum Event<M: Meaning> {
     /// A reader loads the version word, and comes near where the entries are below the limit.
     Look {
@@ -79,8 +79,8 @@ pub enum Event<M: Meaning> {
     Publish {
         /// The number of the root.
         root: u64,
-        /// The entry that is last in the history from now on.
-        entry: M::Entry,
+        /// What is last in the history from now on.
+        item: M::Item,
     },
     /// The author loads the exits of an old root, and frees it where all that entered have left.
     Poll {

@@ -21,10 +21,10 @@ pub struct Laid {
     pub top: Option<u64>,
 }
 
-/// A root: its three record words, where it stands, and what is kept as laid.
+/// A root as the author knows it: two of its record words, where it stands, and what is kept as laid.
+///
+/// Its third record word, the exits, stands beside the author, since readers raise it.
 pub struct Root {
-    /// How many readers have left it.
-    pub exits: u64,
     /// The version that it holds.
     pub version: u64,
     /// The number of its top page.
@@ -66,27 +66,25 @@ pub struct Seat<M: Meaning> {
     /// Where it stands.
     pub stage: Stage,
     /// The history that it has seen.
-    pub history: LinkedList<M::Entry>,
+    pub history: LinkedList<M::Item>,
     /// The versions that it entered, in order.
     pub entered: LinkedList<u64>,
     /// Of each look that found the limit reached, the version and the number of entries.
     pub worn: LinkedList<(u64, u64)>,
     /// The two histories of the last seat that was given back to it: its own then, and that seat's.
-    pub joined: (LinkedList<M::Entry>, LinkedList<M::Entry>),
+    pub joined: (LinkedList<M::Item>, LinkedList<M::Item>),
 }
 
-/// The whole machine between two steps.
-pub struct Gate<M: Meaning> {
+/// What the author alone writes, and so knows: all but the entry count and the exits of the roots.
+pub struct Author<M: Meaning> {
     /// The root that the version word names.
     pub current: u64,
-    /// The entry count in the version word.
-    pub entries: u64,
     /// All roots, by number.
     pub roots: LinkedList<Root>,
     /// The words of all pages, one page behind the other.
     pub words: LinkedList<u64>,
-    /// The author's history: all entries that were published.
-    pub history: LinkedList<M::Entry>,
+    /// The author's history: all that was published.
+    pub history: LinkedList<M::Item>,
     /// How many reader seats are out.
     pub out: u64,
     /// The old roots that the sweep has found held.
@@ -100,7 +98,17 @@ pub struct Gate<M: Meaning> {
     /// Of each reader seat that was taken back, its worn looks.
     pub worn: LinkedList<LinkedList<(u64, u64)>>,
     /// The two histories of the last seat that was given back to the author: the author's then, and that seat's.
-    pub joined: (LinkedList<M::Entry>, LinkedList<M::Entry>),
+    pub joined: (LinkedList<M::Item>, LinkedList<M::Item>),
+}
+
+/// The whole machine between two steps: the author, the seats, and what both change.
+pub struct Gate<M: Meaning> {
+    /// The entry count in the version word.
+    pub entries: u64,
+    /// How many readers have left each root, by number.
+    pub exits: LinkedList<u64>,
+    /// The author.
+    pub author: Author<M>,
     /// All seats and notes that were ever given out.
     pub seats: LinkedList<Seat<M>>,
 }

@@ -1,103 +1,73 @@
 ghost use Rattle.std.specs.Prelude.{[]};
 ghost use Rattle.dt_pages.specs.Reading.{blank};
-ghost use Rattle.dt_gate.specs.Gate.{limits_of};
-ghost use Rattle.dt_gate.specs.Runs.{InRange, EveryRunIsSound};
-ghost use Rattle.dt_gate.specs.Stays.{EventsLeaveTheRest};
-ghost use Rattle.dt_gate.specs.Readers.{ReadsAreFrozen, NoFillUnderAReader, NoLayUnderAReader, LooksDecide};
-ghost use Rattle.dt_gate.specs.Sweeps.{PollsDecide, SweepsLeaveRoom};
-ghost use Rattle.dt_gate.specs.Laws.{ReachedIsSound, FreshIsReached, RunsGoOn, EntriesStayBounded, SizesStay, TellTeaches, WornLooksWereTaken, NoneIsWornBelowTheLimit, NoneWasWornBelowTheLimit, WornLooksFoundTheLimit};
+ghost use Rattle.dt_gate.specs.Gate.{bounds_of};
+ghost use Rattle.dt_gate.specs.Runs.{InRange, EveryRunIsSound, ReachedIsSound, FreshIsReached, RunsGoOn, SoundnessIsKept};
+ghost use Rattle.dt_gate.specs.Readers.{ReadsAreFrozen, NoFillUnderAReader, NoLayUnderAReader, LooksDecide, NoneIsWornBelowTheLimit};
+ghost use Rattle.dt_gate.specs.Sweeps.{SweepsLead, SweepsLeaveRoom};
+ghost use Rattle.dt_gate.specs.Words.{EachEventIsOneAccess, CountsAlwaysFit};
 
 use crate::event::Event;
 use crate::meaning::Meaning;
+use dt_pages::{page_zero_is_empty, reached_pages_decide};
 
 /// After every first part of a list of events, each allowed where it stands, from the fresh gate on, the gate is sound.
 pub fn every_run_is_sound<M: Meaning>(readers: u16, pages: u32, entries: u64, events: &[Event<M>])
-    requires limits { InRange (limits_of readers pages entries) }
+    requires bounds { InRange (bounds_of readers pages entries) }
     requires empty { M.shows blank [] }
-    ensures { EveryRunIsSound M.shows (limits_of readers pages entries) events.now }
-{}
+    ensures { EveryRunIsSound M.shows (bounds_of readers pages entries) events.now }
+{
+    reached_pages_decide();
+    page_zero_is_empty();
+}
 
 /// The same of the gates: each that a run can reach is sound, and an allowed event leads to another one.
+///
+/// Soundness is also kept by itself: no other gate than a sound one follows a sound one.
 pub fn every_reached_gate_is_sound<M: Meaning>(readers: u16, pages: u32, entries: u64)
-    requires limits { InRange (limits_of readers pages entries) }
+    requires bounds { InRange (bounds_of readers pages entries) }
     requires empty { M.shows blank [] }
-    ensures sound { ReachedIsSound M M.shows (limits_of readers pages entries) }
-    ensures begins { FreshIsReached M M.shows (limits_of readers pages entries) }
-    ensures goes_on { RunsGoOn M M.shows (limits_of readers pages entries) }
-{}
+    ensures sound { ReachedIsSound M M.shows (bounds_of readers pages entries) }
+    ensures begins { FreshIsReached M M.shows (bounds_of readers pages entries) }
+    ensures goes_on { RunsGoOn M M.shows (bounds_of readers pages entries) }
+    ensures kept { SoundnessIsKept M M.shows (bounds_of readers pages entries) }
+{
+    reached_pages_decide();
+    page_zero_is_empty();
+}
 
-/// No count of entries passes the limit by more than the readers.
-pub fn entries_stay_bounded<M: Meaning>(readers: u16, pages: u32, entries: u64)
-    requires limits { InRange (limits_of readers pages entries) }
+/// Each event changes the words of the store as its one access does, and in no other way; and the counts fit in their words.
+pub fn each_event_is_one_access<M: Meaning>(readers: u16, pages: u32, entries: u64)
+    requires bounds { InRange (bounds_of readers pages entries) }
     requires empty { M.shows blank [] }
-    ensures { EntriesStayBounded M M.shows (limits_of readers pages entries) }
-{}
+    ensures accesses { EachEventIsOneAccess M M.shows (bounds_of readers pages entries) }
+    ensures counts { CountsAlwaysFit M M.shows (bounds_of readers pages entries) }
+{
+    reached_pages_decide();
+    page_zero_is_empty();
+}
 
-/// There are always two roots more than readers, 512 words a page, and a current root among the roots.
-pub fn sizes_stay<M: Meaning>(readers: u16, pages: u32, entries: u64)
-    requires limits { InRange (limits_of readers pages entries) }
-    requires empty { M.shows blank [] }
-    ensures { SizesStay M M.shows (limits_of readers pages entries) }
-{}
-
-/// Once no reader is out, each worn look is accounted for by versions that were taken back.
-pub fn worn_looks_were_taken<M: Meaning>(readers: u16, pages: u32, entries: u64)
-    requires limits { InRange (limits_of readers pages entries) }
-    requires empty { M.shows blank [] }
-    ensures { WornLooksWereTaken M M.shows (limits_of readers pages entries) }
-{}
-
-/// While all readers together entered less often than the limit, no look is worn, and none was.
-pub fn none_is_worn_below_the_limit<M: Meaning>(readers: u16, pages: u32, entries: u64)
-    requires limits { InRange (limits_of readers pages entries) }
-    requires empty { M.shows blank [] }
-    ensures now { NoneIsWornBelowTheLimit M M.shows (limits_of readers pages entries) }
-    ensures before { NoneWasWornBelowTheLimit M M.shows (limits_of readers pages entries) }
-{}
-
-/// Every look that was worn found the limit reached.
-pub fn worn_looks_found_the_limit<M: Meaning>(readers: u16, pages: u32, entries: u64)
-    ensures { WornLooksFoundTheLimit M M.shows (limits_of readers pages entries) }
-{}
-
-/// Each event leaves everything as it was but for what it is made for.
-pub fn events_leave_the_rest<M: Meaning>(readers: u16, pages: u32, entries: u64)
-    requires limits { InRange (limits_of readers pages entries) }
-    requires empty { M.shows blank [] }
-    ensures { EventsLeaveTheRest M M.shows (limits_of readers pages entries) }
-{}
-
-/// Nothing that a reader may read changes while it is inside.
+/// What a reader rests on: no word changes under it while it is inside, and a look is worn exactly at the limit.
 pub fn nothing_changes_under_a_reader<M: Meaning>(readers: u16, pages: u32, entries: u64)
-    requires limits { InRange (limits_of readers pages entries) }
+    requires bounds { InRange (bounds_of readers pages entries) }
     requires empty { M.shows blank [] }
-    ensures reads { ReadsAreFrozen M M.shows (limits_of readers pages entries) }
-    ensures pages { NoFillUnderAReader M M.shows (limits_of readers pages entries) }
-    ensures roots { NoLayUnderAReader M M.shows (limits_of readers pages entries) }
-{}
+    ensures reads { ReadsAreFrozen M M.shows (bounds_of readers pages entries) }
+    ensures pages { NoFillUnderAReader M M.shows (bounds_of readers pages entries) }
+    ensures roots { NoLayUnderAReader M M.shows (bounds_of readers pages entries) }
+    ensures looks { LooksDecide M M.shows (bounds_of readers pages entries) }
+    ensures worn { NoneIsWornBelowTheLimit M M.shows (bounds_of readers pages entries) }
+{
+    reached_pages_decide();
+    page_zero_is_empty();
+}
 
-/// A look lets a seat that is out come near exactly where the entries are below the limit; else it stays out, and keeps
-/// the version and the entries.
-pub fn a_look_decides<M: Meaning>(readers: u16, pages: u32, entries: u64)
-    ensures { LooksDecide M M.Entry (limits_of readers pages entries) }
-{}
-
-/// A poll frees an old root exactly where all that entered have left.
-pub fn a_poll_decides<M: Meaning>(readers: u16, pages: u32, entries: u64)
-    ensures { PollsDecide M M.Entry (limits_of readers pages entries) }
-{}
-
-/// A sweep over all old roots leaves a root free, and no more roots old than readers are out, whatever readers do between
-/// its polls.
+/// A sweep that polls every old root once frees those that all readers have left, finds the others held, which are no more than
+/// readers were out, and so leaves a root free, whatever readers do between its polls.
 pub fn a_sweep_leaves_room<M: Meaning>(readers: u16, pages: u32, entries: u64)
-    requires limits { InRange (limits_of readers pages entries) }
+    requires bounds { InRange (bounds_of readers pages entries) }
     requires empty { M.shows blank [] }
-    ensures { SweepsLeaveRoom M M.shows (limits_of readers pages entries) }
-{}
-
-/// Who takes a seat or a note back has its history, and its own of before, as prefixes of the one that it has.
-pub fn a_tell_teaches<M: Meaning>(readers: u16, pages: u32, entries: u64)
-    requires limits { InRange (limits_of readers pages entries) }
-    requires empty { M.shows blank [] }
-    ensures { TellTeaches M M.shows (limits_of readers pages entries) }
-{}
+    ensures leads { SweepsLead M M.Item }
+    ensures room { SweepsLeaveRoom M M.shows (bounds_of readers pages entries) }
+{
+    reached_pages_decide();
+    page_zero_is_empty();
+}

@@ -6,6 +6,7 @@
 //! No code runs here: the types are read by the definitions, and no value of them is ever made.
 #![tactic(auto)]
 
+mod access;
 mod event;
 mod examples;
 mod gate;
@@ -13,18 +14,17 @@ mod laws;
 mod meaning;
 mod wrong;
 
+pub use access::Access;
 pub use event::{Event, Holder, ReadWord, RecordWord};
 pub use examples::{
     Counting, a_busy_gate_is_reached, a_note_tells_the_history, a_seat_is_taken_back,
     an_old_root_is_freed, every_counting_run_is_sound, pages_are_filled_and_read,
     three_readers_pass_the_limit,
 };
-pub use gate::{Frozen, Gate, Laid, Root, Seat, Stage, Standing};
+pub use gate::{Author, Frozen, Gate, Laid, Root, Seat, Stage, Standing};
 pub use laws::{
-    a_look_decides, a_poll_decides, a_sweep_leaves_room, a_tell_teaches, entries_stay_bounded,
-    events_leave_the_rest, every_reached_gate_is_sound, every_run_is_sound,
-    none_is_worn_below_the_limit, nothing_changes_under_a_reader, sizes_stay,
-    worn_looks_found_the_limit, worn_looks_were_taken,
+    a_sweep_leaves_room, each_event_is_one_access, every_reached_gate_is_sound, every_run_is_sound,
+    nothing_changes_under_a_reader,
 };
 pub use meaning::Meaning;
 pub use wrong::{

@@ -1,11 +1,11 @@
 ghost use Rattle.std.specs.Prelude.{List};
 ghost use Rattle.dt_pages.specs.Reading.{Reading};
 
-/// What the entries of a history are, and what pages mean.
-pub trait Meaning {
-    /// What is published: a version is the list of all entries up to it.
-    type Entry;
+/// What is published, and what pages mean.
+pub trait Meaning: Send + Sync {
+    /// What one publish adds to the history. A version is the list of all items up to it.
+    type Item: Send + Sync;
 
-    // This reading shows this list of entries.
-    ghost shows: { Reading → List Self.Entry → Type 0 };
+    // This reading shows this list of items.
+    ghost shows: { Reading → List Self.Item → Type 0 };
 }

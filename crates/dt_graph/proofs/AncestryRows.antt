@@ -76,6 +76,9 @@ with_all classes bit n = bit || has_number classes n
 abbrev pub without_one : ℕ → Bool → ℕ → Bool
 without_one class bit n = bit && not (n == class)
 
+abbrev pub without_all : List ℕ → Bool → ℕ → Bool
+without_all classes bit n = bit && not (has_number classes n)
+
 pub with_all_said : (place bit new : Bool) → cond place (bit || new) bit ≡ (bit || (place && new))
 with_all_said true bit new = refl
 with_all_said false true new = refl

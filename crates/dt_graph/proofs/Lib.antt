@@ -16,9 +16,13 @@ pub mod Members
 pub mod DescendantLists
 pub mod AscendingSets
 pub mod ClassBits
+pub mod LiveLists
 pub mod Renewing
 pub mod FirstClass
 pub mod AncestryRows
 pub mod Effects
 pub mod ListsOfGraphs
 pub mod Needed
+pub mod ListMembers
+pub mod BelowSets
+pub mod PlacedMembers

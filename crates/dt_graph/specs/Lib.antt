@@ -5,6 +5,8 @@ pub mod GraphRows
 pub mod Parents
 pub mod Below
 pub mod Lawful
+pub mod LinkChanges
+pub mod Laws
 pub mod Descendants
 pub mod ClassSet
 pub mod Ancestry
@@ -14,3 +16,4 @@ pub mod Restore
 pub mod Examples
 pub mod RefusalExamples
 pub mod Unlawful
+pub mod LawExamples

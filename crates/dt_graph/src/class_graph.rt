@@ -1,6 +1,6 @@
 ghost use Rattle.std.specs.Prelude.{◌≡◌, ℕ, ◌<◌, ◌≤◌, ◌↔◌, IsTrue, ◌++◌, IfOk, OnOk, OnErr, None, length, find};
 ghost use Rattle.dt_graph.specs.Refusal.{ok_unless};
-ghost use Rattle.dt_graph.specs.Graph.{Graph, empty_graph, is_live, has_link, parent_count};
+ghost use Rattle.dt_graph.specs.Graph.{Graph, empty_graph, has_number, is_live, has_link, parent_count};
 ghost use Rattle.dt_graph.specs.Parents.{parents_of};
 ghost use Rattle.dt_graph.specs.Below.{HasNoCycle, IsBelow, is_below};
 ghost use Rattle.dt_graph.specs.Descendants.{descendants};
@@ -12,11 +12,16 @@ ghost use Rattle.dt_graph.specs.GraphChange.{add_cause, add_effect, drop_cause, 
 use crate::ancestry::Ancestry;
 use crate::class_no::ClassNo;
 use crate::class_rows::ClassRows;
+use crate::class_set::ClassSet;
 use crate::graph_fault::GraphFault;
+use crate::limits::CLASSES;
 use crate::no_memory::NoMemory;
 use crate::renewal::{join_all, renew};
+use arrayvec::ArrayVec;
 use std::alloc::Global;
 use std::marker::Model;
+
+const PLACES: usize = CLASSES as usize;
 
 /// The live classes and the links from classes to parents.
 #[derive(Debug, Drop)]
@@ -54,6 +59,22 @@ impl ClassGraph {
         self.rows.is_live(class)
     }
 
+    /// The live classes, in ascending order, in a list that takes 4 KB where it stands and no other memory. It asks each
+    /// of the 2,048 class numbers.
+    pub fn classes(&self) -> ArrayVec<ClassNo, PLACES>
+        ensures { result.items ≡ self.now.classes }
+    {
+        self.law();
+        let mut classes = ArrayVec::new();
+        for number in 0..PLACES {
+            let class = ClassNo::from_index(number);
+            if self.is_live(class) {
+                classes.push(class);
+            }
+        }
+        classes
+    }
+
     /// The parents of the class, in ascending order: none where it isn't live.
     pub fn parents(&self, class: ClassNo) -> &[ClassNo]
         ensures { result.now ≡ parents_of self.now.links class }
@@ -79,9 +100,9 @@ impl ClassGraph {
     pub(crate) fn lowest_subclass(&self, class: ClassNo) -> Option<ClassNo>
         ensures { result ≡ lowest_subclass self.now.links class }
     {
-        let below = self.ancestry.below(class);
+        let below = self.below(class);
         below.law();
-        self.rows.law();
+        self.law();
         self.first_with_parent(below.classes().as_slice(), class)
     }
 
@@ -103,6 +124,31 @@ impl ClassGraph {
         self.ancestry.holds(low, high)
     }
 
+    /// The classes at or below `class`. Where `class` is live, they are the live ones at or below it; where it isn't,
+    /// `class` alone. Kept, so it takes one step.
+    pub fn below(&self, class: ClassNo) -> &ClassSet
+        ensures test { (low : ℕ) → has_number result.now low ≡ is_below self.now.links low class }
+        ensures live { IsTrue (is_live self.now class) → result.now ≡ descendants self.now class }
+    {
+        self.rows.law();
+        let below = self.ancestry.below(class);
+        below.law();
+        below
+    }
+
+    /// The classes at or above `class`. Where `class` is live, they are live; where it isn't, `class` alone. Kept, so it
+    /// takes one step.
+    pub fn above(&self, class: ClassNo) -> &ClassSet
+        ensures test { (high : ℕ) → has_number result.now high ≡ is_below self.now.links class high }
+        ensures live { (high : ℕ) → IsTrue (is_live self.now class) → IsTrue (has_number result.now high)
+            → IsTrue (is_live self.now high) }
+    {
+        self.rows.law();
+        let above = self.ancestry.above(class);
+        above.law();
+        above
+    }
+
     /// Appends the live classes at or below `class`, in ascending order: none where `class` isn't live. [`NoMemory`]
     /// where no memory was found; `out` is as it was then.
     pub fn descendants_into(&self, class: ClassNo, out: &mut Vec<ClassNo>) -> Result<(), NoMemory>
@@ -113,8 +159,7 @@ impl ClassGraph {
         if !self.is_live(class) {
             return Ok(());
         }
-        let below = self.ancestry.below(class);
-        below.law();
+        let below = self.below(class);
         below.push_into(out)
     }
 
@@ -126,9 +171,7 @@ impl ClassGraph {
         if !self.is_live(class) {
             return 0;
         }
-        let below = self.ancestry.below(class);
-        below.law();
-        below.len()
+        self.below(class).len()
     }
 
     /// An equal graph, with memory of its own; [`NoMemory`] where none was found.
@@ -220,10 +263,18 @@ impl ClassGraph {
         Ok(())
     }
 
-    /// The class is as it was before a change: live with these parents alone, or not live.
+    /// For undoing alone: the class is as it was before one change, live with these parents alone or not live.
     ///
-    /// The graph that this leaves must be lawful, as it is where a change of this class alone is undone. There are at
-    /// most [`PARENTS`](crate::PARENTS) parents.
+    /// Who undoes a change kept [`is_live`](ClassGraph::is_live) and [`parents`](ClassGraph::parents) of its class before
+    /// it; every change touches one class and its links to parents. The last change is undone first, so that all other
+    /// classes are as they were then; the condition holds and the graph is the one before the change
+    /// ([`changes_are_undone`](crate::changes_are_undone)). No call tests the condition: for any other purpose take
+    /// [`add`](ClassGraph::add), [`drop_class`](ClassGraph::drop_class), [`link`](ClassGraph::link) and
+    /// [`unlink`](ClassGraph::unlink), which refuse.
+    ///
+    /// It never wants memory. It costs what the change costs that it undoes, and where that was an unlink, up to one step
+    /// for each class at or below this one and each class that it is below again.
+    #[doc(hidden)]
     pub fn restore(&mut self, class: ClassNo, is_live: bool, parents: &[ClassNo])
         requires few { length parents.now ≤ PARENTS }
         requires lawful { LawfulGraph (restore_effect self.old class is_live parents.now) }

@@ -4,9 +4,9 @@ ghost use Rattle.std.specs.Option.{SomeIff};
 use crate::limits::CLASSES;
 use std::marker::Model;
 
-/// The number of a class, below [`CLASSES`]; by default 0. Who numbers classes by their names gives a class that is
+/// The number of a class, below [`CLASSES`]. Who numbers classes by their names gives a class that is
 /// dropped and added again the same number.
-#[derive(Clone, Copy, Debug, Default, PartialEq, Eq, PartialOrd, Ord)]
+#[derive(Clone, Copy, Debug, PartialEq, Eq, PartialOrd, Ord)]
 pub struct ClassNo {
     number: u16,
 }
@@ -22,6 +22,15 @@ impl Model for ClassNo {
     ghost invariant = { λ c. c.number < CLASSES };
 
     ghost inverse = { λ n. record { number = n } };
+}
+
+impl Default for ClassNo {
+    /// The class of the number 0.
+    fn default() -> ClassNo
+        ensures { result ≡ 0 }
+    {
+        ClassNo { number: 0 }
+    }
 }
 
 impl ClassNo {

@@ -11,6 +11,7 @@ mod class_rows;
 mod class_set;
 mod graph_fault;
 mod law;
+mod laws;
 mod limits;
 mod listed;
 mod no_memory;
@@ -21,17 +22,14 @@ mod steps;
 pub use below::{below_is_an_order, below_test_agrees};
 pub use class_graph::ClassGraph;
 pub use class_no::ClassNo;
+pub use class_set::ClassSet;
 pub use graph_fault::GraphFault;
 pub use law::{
-    changes_are_undone, changes_keep_law, refusals_are_needed, what_changes_leave,
-    what_restoring_leaves,
+    changes_are_undone, changes_keep_law, graphs_are_shared, refusals_are_needed,
+    what_changes_leave, what_restoring_leaves,
 };
+pub use laws::{law_of_below, others_stay_below};
 pub use limits::{CLASSES, PARENTS};
 pub use listed::lists_agree;
 pub use no_memory::NoMemory;
 pub use steps::Steps;
-
-#[cfg(test)]
-mod search_tests;
-#[cfg(test)]
-mod tests;

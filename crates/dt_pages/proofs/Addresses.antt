@@ -10,7 +10,7 @@ use Rattle.dt_pages.specs.Laws.{ImagesSetWords, LevelsHoldAddresses, NothingIsPa
 use Rattle.dt_pages.proofs.Nodes.{same_test}
 
 pub levels_hold : LevelsHoldAddresses
-levels_hold = refl
+levels_hold = omega arith
 
 -- an address with a word
 abbrev pub IsSet : ℕ × ℕ → Type 0

@@ -8,3 +8,5 @@ pub mod Numbers
 pub mod Drafts
 pub mod Images
 pub mod Laying
+pub mod Listed
+pub mod Few

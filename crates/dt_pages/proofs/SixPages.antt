@@ -7,7 +7,7 @@ use Rattle.dt_pages.specs.Reading.{levels, addresses, follow, reading, Meets, Re
 use Rattle.dt_pages.specs.Image.{look_up}
 use Rattle.dt_pages.proofs.Nodes.{same_test}
 use Rattle.dt_pages.proofs.ThreeWords.{found}
-use Rattle.dt_pages.specs.Laws.{three_words, six_pages}
+use Rattle.dt_pages.specs.ThreeWords.{three_words, six_pages}
 
 -- the word at an address, by cases
 abbrev chosen : ℕ → ℕ

@@ -2,7 +2,7 @@
 use Rattle.std.proofs.Common.{◌≡◌, ℕ, List, [], ◌∷◌, length, refl, sym, ◌∙◌, arith}
 use Rattle.std.specs.FinMap.{empty, get, entries, find, entries-from_sorted, get-from_sorted, len-empty, len-entries}
 use Rattle.std.specs.Ordering.{nat_cmp}
-use Rattle.dt_pages.specs.Laws.{three_words, last_changed, one_gone}
+use Rattle.dt_pages.specs.ThreeWords.{three_words, last_changed, one_gone}
 
 -- the three words
 abbrev pub three : List (ℕ × ℕ)

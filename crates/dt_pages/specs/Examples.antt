@@ -1,9 +1,10 @@
 -- Readings, reach and places, worked out.
 use Rattle.std.specs.Prelude.{◌≡◌, ℕ, ◌+◌, ◌-◌, ◌*◌, [], ◌∷◌, refl}
 use Rattle.std.proofs.Common.{arith, inl, inr}
-use Rattle.dt_pages.specs.Reading.{Pages, blank, follow, reading, Reaches}
+use Rattle.dt_pages.specs.Reading.{Pages, follow, reading, Reaches}
 use Rattle.dt_pages.specs.Image.{place}
-use Rattle.dt_pages.specs.Laws.{SamePage, pages_with}
+use Rattle.dt_pages.specs.Laws.{SamePage}
+use Rattle.dt_pages.specs.ThreeWords.{pages_with}
 
 -- pages of which each word tells its page and its place
 abbrev telling : Pages
@@ -26,9 +27,6 @@ one_level = refl
 
 no_level : follow telling 0 4 7 ≡ 4
 no_level = refl
-
-nothing_is_blank : blank 7 ≡ 0
-nothing_is_blank = refl
 
 -- ---- reach
 

@@ -1,9 +1,9 @@
 -- What a tree of pages keeps: a finite map from addresses to words, and how many pages it takes.
-use Rattle.std.specs.Prelude.{◌≢◌, ℕ, zero, suc, ◌+◌, ◌/◌, ◌^◌, ◌<◌, ◌==◌, ◌&&◌, not, Bool, List, ◌++◌, length, map, filter, unwrap_or, All}
+use Rattle.std.specs.Prelude.{◌≢◌, ◌≤◌, ◌⊎◌, ℕ, zero, suc, ◌+◌, ◌/◌, ◌^◌, ◌<◌, ◌==◌, ◌&&◌, not, Bool, List, ◌++◌, length, map, filter, unwrap_or, All}
 use Rattle.std.specs.Ordering.{nat_cmp}
 use Rattle.std.specs.FinMap.{FinMap, get, entries}
 use Rattle.std.specs.List.{list_any, dedup}
-use Rattle.dt_pages.specs.Reading.{Reading, levels, addresses}
+use Rattle.dt_pages.specs.Reading.{Reading, page_words, levels, addresses}
 
 -- the words that are set, by address
 abbrev pub Image : Type 0
@@ -17,10 +17,10 @@ IsImage image = All (λ set. (set.0 < addresses) × (set.1 ≢ 0)) (entries imag
 abbrev pub look_up : Image → Reading
 look_up image address = unwrap_or (get image address) 0
 
--- a page of level 1 stands over 512 addresses, one of each further level over 512 pages of the level below;
+-- a page of level 1 stands over `page_words` addresses, one of each further level over so many pages of the level below;
 -- this is the place of an address's page among those of a level
 abbrev pub place : ℕ → ℕ → ℕ
-place level address = address / 512 ^ level
+place level address = address / page_words ^ level
 
 -- the places of a level below which a word is set, each once
 abbrev pub used_places : Image → ℕ → List ℕ
@@ -40,6 +40,18 @@ nodes_up_to (suc level) image = nodes_up_to level image + length (used_places im
 -- how many nodes the tree of the image has below which a word is set
 abbrev pub nodes : Image → ℕ
 nodes image = nodes_up_to levels image
+
+-- how many of them are neither the top nor a leaf
+abbrev pub between : Image → ℕ
+between image = length (used_places image 2)
+
+-- the regions of an image: class words, selector words and place words; cells of one receiver; cells of the master array
+abbrev pub IsInRegion : ℕ → Type 0
+IsInRegion address = (address < 12288) ⊎ ((2 ^ 24 ≤ address) × (address < 2 ^ 25)) ⊎ ((2 ^ 26 ≤ address) × (address < 2 ^ 27))
+
+-- every word that is set lies in one of them
+abbrev pub IsInRegions : Image → Type 0
+IsInRegions image = All (λ set. IsInRegion set.0) (entries image)
 
 -- how many nodes of the levels up to this one have a word of the new image set below them, and differ from the old image
 abbrev pub need_up_to : ℕ → Image → Image → ℕ

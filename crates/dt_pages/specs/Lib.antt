@@ -1,6 +1,13 @@
+-- How a tree of pages is read, and how many pages an image takes. Read in this order:
+-- `Reading`, how a word is found from a top page, and which pages are met on the way;
+-- `Image`, the finite map that a tree keeps, its nodes, and how many pages a new image needs beside an old one;
+-- `Reach`, the pages that a top page reaches, as a list; `Laws`, what holds of all these, which the public calls promise;
+-- then `ThreeWords` and `Examples`, worked out.
 pub mod Reading
 pub mod Image
+pub mod Reach
 pub mod Laws
+pub mod ThreeWords
 pub mod Examples
 pub mod Draft
 pub mod TreeForm

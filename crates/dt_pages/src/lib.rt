@@ -1,7 +1,9 @@
 //! What a tree of pages shows, and what it takes to keep it.
 #![tactic(auto)]
 
-ghost use Rattle.dt_pages.specs.Laws.{EmptyImageIsBlank, SameReading, SameReach, TopIsReached, PageZeroIsBlank, PageZeroReachesItself, NodesAreCounted, DifferencesAreSeen, LevelsHoldAddresses, ImagesSetWords, NothingIsPastTheLast, FirstNeedsAll, SameNeedsNone, NeedIsAtMostNodes, SixPages, PlacesOfThreeWords};
+ghost use Rattle.dt_pages.specs.Reach.{EachReachIsListed};
+ghost use Rattle.dt_pages.specs.Laws.{NodesAreFew, NodesInRegionsAreFew, ReachedPagesDecide, PageZeroIsEmpty, NodesAreCounted, DifferencesAreSeen, LevelsHoldAddresses, ImagesSetWords, NothingIsPastTheLast, FirstNeedsAll, SameNeedsNone, NeedIsAtMostNodes};
+ghost use Rattle.dt_pages.specs.ThreeWords.{SixPages, PlacesOfThreeWords};
 
 mod draft;
 mod leaf;
@@ -16,22 +18,30 @@ pub use words::Words;
 
 /// A reading depends on the words of the pages that its top page reaches, and on no other.
 pub fn reached_pages_decide()
-    ensures reading { SameReading }
-    ensures reach { SameReach }
-    ensures itself { TopIsReached }
+    ensures { ReachedPagesDecide }
 {}
 
 /// Page 0 holds zeros: as a top page it shows the image in which nothing is set, and reaches no other page.
 pub fn page_zero_is_empty()
-    ensures image { EmptyImageIsBlank }
-    ensures reading { PageZeroIsBlank }
-    ensures reach { PageZeroReachesItself }
+    ensures { PageZeroIsEmpty }
+{}
+
+/// The pages that a top page reaches, as a list: those, each once. Want of pages counts them.
+pub fn reached_pages_are_listed()
+    ensures { EachReachIsListed }
 {}
 
 /// A node is counted exactly where a word is set below it, and once; and it is seen to differ exactly where some word does.
 pub fn nodes_are_counted_once()
     ensures places { NodesAreCounted }
     ensures differences { DifferencesAreSeen }
+{}
+
+/// An image of so many words has at most one leaf for each, one top, and the nodes between: with the regions of an image at
+/// most 322 and its words. That sizes a store.
+pub fn nodes_are_few()
+    ensures words { NodesAreFew }
+    ensures regions { NodesInRegionsAreFew }
 {}
 
 /// Beside the empty image each node of an image needs a page, beside the image itself none does, and never more do than there are.
@@ -41,7 +51,7 @@ pub fn need_is_of_nodes()
     ensures most { NeedIsAtMostNodes }
 {}
 
-/// The levels of a tree hold as many words as there are addresses, an image sets words other than 0 at these alone, and
+/// The levels of a tree hold at least as many words as there are addresses, an image sets words other than 0 at these alone, and
 /// past the last of them both read as 0.
 pub fn addresses_are_held()
     ensures levels { LevelsHoldAddresses }

@@ -1,5 +1,3 @@
-pub mod Appending
-pub mod Losing
 pub mod Parts
 pub mod Spelling
 pub mod NumbersStay
@@ -14,7 +12,6 @@ pub mod Endings
 pub mod OneOutcome
 pub mod FourRefusals
 pub mod FirstLaws
-pub mod OutsideLaws
 pub mod NoScriptLaws
 pub mod EndingLaws
 pub mod ThreeWords

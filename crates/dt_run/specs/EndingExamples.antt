@@ -1,13 +1,16 @@
 -- Small worked examples of what endings say.
-use Rattle.std.specs.Prelude.{◌≡◌, ℕ, zero, suc, List, [], ◌∷◌, ◌++◌, take, map, codes, Option, None, Some, refl}
+use Rattle.std.specs.Prelude.{◌≡◌, ℕ, zero, suc, ◌+◌, List, [], ◌∷◌, ◌++◌, length, take, map, codes, Option, None, Some, refl}
 use Rattle.std.specs.Fmt.{digits}
 use Rattle.std.specs.List.{join_with_byte}
-use Rattle.std.proofs.Common.{◌∙◌, ap, arith, inl, inr, lit<, lit≤}
+use Rattle.std.proofs.Common.{◌∙◌, ap, arith, inl, inr, lit<, lit≤, length-append}
+use Rattle.dt_outside.specs.Losing.{Loses}
+use Rattle.dt_run.specs.declared.limits.TheConstants.{SCRIPT_BYTES}
 use Rattle.dt_run.specs.Status.{number_of}
 use Rattle.dt_run.specs.declared.status.Status.{Status}
 use Rattle.dt_run.specs.declared.status.Status.TheVariants.{Done, Usage, Script, ReadFault, WriteFault, NoMemory}
 use Rattle.dt_run.specs.Log.{Log}
-use Rattle.dt_run.specs.Run.{run_words, usage_text, script_text, read_text, memory_text, IsRunOf, Told, WereRead, IsDone, IsCutShort}
+use Rattle.dt_run.specs.Run.{run_words, usage_text, script_text, read_text, memory_text, IsRunOf, WereRead, IsDone, IsCutShort}
+use Rattle.dt_outside.specs.Putting.{Told}
 use Rattle.dt_run.specs.Ending.{Outside, outside, Ending, EndsAs}
 use Rattle.dt_run.specs.OutcomeExamples.{log_of, override_log}
 use Rattle.dt_run.specs.TextExamples.{smallest_run, override_run}
@@ -130,33 +133,39 @@ abbrev after_all : List ℕ → Outside
 after_all taken = outside (Some []) 0 (Some taken) 0
 
 done_ends : Ending Done (Some (log_of 0 [] [])) (outside (Some (codes "dispatch 1\nend\n")) 0 (Some []) 0) (after_all smallest_text)
-done_ends = (codes "dispatch 1\nend\n", (refl, refl), (smallest_text, smallest_run, refl))
+done_ends = (refl, refl, (codes "dispatch 1\nend\n", (refl, refl), (smallest_text, smallest_run, refl)))
 
 done_hands_a_log_back : (old new : Outside) → Ending Done None old new → ⊥
-done_hands_a_log_back old new ends = ends.2
+done_hands_a_log_back old new ends = ends.2.2
 
 cut_short_hands_a_log_back : (old new : Outside) → Ending WriteFault None old new → ⊥
-cut_short_hands_a_log_back old new ends = ends.1.2
+cut_short_hands_a_log_back old new ends = ends.2.2
 
 none_is_handed_back_else : (log : Log) (old new : Outside) → Ending Script (Some log) old new → ⊥
-none_is_handed_back_else log old new ends = let none = ends.1.0 in absurd cc
+none_is_handed_back_else log old new ends = let none = ends.2.0 in absurd cc
 
 usage_reads_nothing : (log : Option Log) (new : Outside) → Ending Usage log (outside (Some (codes "x")) 0 None 0) new → new.left ≡ Some (codes "x")
-usage_reads_nothing log new ends = ends.0
+usage_reads_nothing log new ends = ends.1
 
 a_read_fault_is_counted : (log : Option Log) → Ending ReadFault log (outside None 3 None 0) (outside None 3 None 0) → ⊥
-a_read_fault_is_counted log ends = omega (arith, ends.0 (lit< tt))
+a_read_fault_is_counted log ends = let is : ◌≡◌ {A = ℕ} 3 4 = ends.0 in omega (arith, is)
 
-a_write_fault_is_counted : (log : Option Log) → Ending WriteFault log (outside None 0 None 3) (outside None 0 None 3) → ⊥
-a_write_fault_is_counted log ends = omega (arith, ends.0 (lit< tt))
+a_write_fault_is_counted_once : (log : Option Log) → Ending WriteFault log (outside None 0 None 3) (outside None 0 None 5) → ⊥
+a_write_fault_is_counted_once log ends = let is : ◌≡◌ {A = ℕ} 5 4 = ends.1 in omega (arith, is)
 
--- no script that is short was read to its end
-a_script_fault_reads_to_the_end : (log : Option Log) (taken : Option (List ℕ))
+no_other_read_fault_is_counted : (log : Option Log) → Ending NoMemory log (outside None 0 None 0) (outside None 1 None 0) → ⊥
+no_other_read_fault_is_counted log ends = let is : ◌≡◌ {A = ℕ} 1 0 = ends.0 in omega (arith, is)
+
+-- bytes that aren't too many were read to the end
+short_bytes_are_read_to_the_end : (log : Option Log) (taken : Option (List ℕ))
     → Ending Script log (outside (Some (codes "x")) 0 taken 0) (outside (Some (codes "x")) 0 taken 0) → ⊥
-a_script_fault_reads_to_the_end log taken ends = elim ends.0 [
-  | inl long ↦ omega (arith, long)
+short_bytes_are_read_to_the_end log taken ends = elim ends.1 [
+  | inl long ↦ too_long long
   | inr read ↦ let none = read.0 in absurd cc
 ]
+  where
+    too_long : Loses (SCRIPT_BYTES + 1) (Some (codes "x")) (Some (codes "x")) → ⊥
+    too_long (lost, many, split) = omega (arith, many, ap length split, length-append lost (codes "x"))
 
 -- nothing was read or put where the words found no memory; else the text of the fault was told
 memory_wanted_at_once : (at : Outside) → EndsAs 6 at at

@@ -1,8 +1,3 @@
-pub mod Outside
-pub mod InMemory
-pub mod Reading
-pub mod Putting
-pub mod OutsideExamples
 pub mod Cut
 pub mod Words
 pub mod Line
@@ -25,7 +20,6 @@ pub mod Run
 pub mod Ending
 pub mod TextExamples
 pub mod EndingExamples
-pub mod OutsideLaws
 pub mod FirstLaws
 pub mod NoScriptLaws
 pub mod EndingLaws

@@ -7,8 +7,7 @@ use Rattle.dt_run.specs.Script.{script_of, names_of}
 use Rattle.dt_run.specs.Log.{Log}
 use Rattle.dt_run.specs.Outcome.{Outcome}
 use Rattle.dt_run.specs.Text.{text_of}
-use Rattle.dt_run.specs.Outside.{Rose}
-use Rattle.dt_run.specs.Putting.{AppendsPrefix}
+use Rattle.dt_outside.specs.Putting.{AppendsPrefix}
 use Rattle.dt_run.specs.declared.limits.TheConstants.{SCRIPT_BYTES}
 
 -- the words of the one command that there is for now
@@ -38,11 +37,6 @@ pub record IsRunOf (bytes : List ℕ) (log : Log) (text : List ℕ) : Type 0 whe
   pub script : IsFirstScript bytes lines
   pub outcome : Outcome (script_of lines) log
   pub printed : text ≡ text_of (names_of lines) log
-
--- A fault's text was told: the sink took a prefix of it, and all of it where its count of faults didn't rise.
-pub record Told (before after : Option (List ℕ)) (faults_before faults_after : ℕ) (text : List ℕ) : Type 0 where
-  pub prefix : AppendsPrefix before after text
-  pub whole : (Rose faults_before faults_after → ⊥) → Appends before after text
 
 -- These bytes were read: where the source tells its bytes, they are all that it had left, and none is left now.
 abbrev pub WereRead : Option (List ℕ) → Option (List ℕ) → List ℕ → Type 0

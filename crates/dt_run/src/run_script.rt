@@ -1,25 +1,24 @@
 ghost use Rattle.std.specs.Prelude.{◌≡◌, ◌≢◌, ℕ, ◌+◌, ◌<◌, ◌≤◌, ◌↔◌, ◌⊎◌, List, Option, None, Some, [], length, IsTrue, IfOk, IfSome, IsErrOf, IsSome};
 ghost use Rattle.std.specs.Io.KnownBytes.{Appends};
-ghost use Rattle.dt_run.specs.Outside.{Rose};
-ghost use Rattle.dt_run.specs.Reading.{LosesAtMost};
-ghost use Rattle.dt_run.specs.Putting.{AppendsPrefix};
+ghost use Rattle.dt_outside.specs.Faults.{Rose, one_fault_more};
+ghost use Rattle.dt_outside.specs.Losing.{LosesAtMost};
+ghost use Rattle.dt_outside.specs.Putting.{AppendsPrefix, Told};
 ghost use Rattle.dt_run.specs.Line as line;
 ghost use Rattle.dt_run.specs.FirstScript.{IsFirstScript};
-ghost use Rattle.dt_run.specs.Run.{run_words, IsNoScript, IsRunOf, Told};
+ghost use Rattle.dt_run.specs.Run.{run_words, IsNoScript, IsRunOf};
 ghost use Rattle.dt_run.specs.Ending.{outside, Ending, Printed};
 ghost use Rattle.dt_run.specs.declared.limits.TheConstants.{SCRIPT_BYTES};
 
 use crate::arg_words::ArgWords;
 use crate::command::is_command;
 use crate::first_script::{ScriptFault, read_first_script};
+use crate::limits::SCRIPT_BYTES;
 use crate::log::Log;
-use crate::outside::{Failed, Sink, Source};
 use crate::perform::perform;
-use crate::putting::put_all;
-use crate::reading::{ReadFault, read_to_end};
 use crate::status::Status;
 use crate::text::make_text;
 use crate::turnstile::Turnstile;
+use dt_outside::{Failed, ReadFault, Sink, Source, put_all, read_to_end};
 use std::alloc::Global;
 use std::thread::Threads;
 
@@ -63,6 +62,7 @@ fn end_with<K: Sink>(sink: &mut K, status: Status, text: &[u8]) -> Ran
     ensures status { result.status ≡ status }
     ensures log { result.log ≡ None }
     ensures told { Told (K.taken sink.old) (K.taken sink.new) (K.faults sink.old) (K.faults sink.new) text.now }
+    ensures counted { (K.faults sink.new ≡ K.faults sink.old) ⊎ (K.faults sink.new ≡ one_fault_more (K.faults sink.old)) }
     ensures counts { K.faults sink.old ≤ K.faults sink.new }
 {
     let _ = put_all(sink, text);
@@ -101,7 +101,7 @@ fn run_source<S: Source, K: Sink, T: Turnstile>(
     ensures source_counts { S.faults source.old ≤ S.faults source.new }
     ensures sink_counts { K.faults sink.old ≤ K.faults sink.new }
 {
-    let bytes = match read_to_end(alloc, source) {
+    let bytes = match read_to_end(alloc, source, SCRIPT_BYTES) {
         Ok(bytes) => bytes,
         Err(ReadFault::Read) => return end_with(sink, Status::ReadFault, b"fault read\n"),
         Err(ReadFault::TooLong) => return end_with(sink, Status::Script, b"fault script\n"),

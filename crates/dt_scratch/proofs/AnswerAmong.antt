@@ -13,7 +13,7 @@ use Rattle.dt_scratch.specs.Resolve.{are_below, is_more_specific, is_more_specif
 use Rattle.dt_scratch.specs.Among.{answer_among, applicable_among, count_unbeaten, IsTransitive}
 use Rattle.dt_scratch.proofs.MoreSpecific.{is_more_specific-irreflexive}
 use Rattle.dt_scratch.proofs.Best.{is_beaten}
-use Rattle.dt_scratch.proofs.Members.{In, In-filter, In-from_Contains, filter-map, filter-filter, list_any-map}
+use Rattle.dt_graph.proofs.ListMembers.{In, In-filter, In-from_Contains, filter-map, filter-filter, list_any-map}
 use Rattle.dt_scratch.proofs.StrictOrder.{none_less, least, alone, leads}
 
 abbrev more_specific : List Link → Defined → Defined → Bool

@@ -1,5 +1,5 @@
 -- The most specific of the definitions that were seen so far.
-use Rattle.std.proofs.Common.{◌≡◌, ℕ, ◌+◌, ◌<◌, ◌≤◌, Bool, true, false, cond, List, [], ◌∷◌, ◌++◌, length, take, get_or, inl, refl, sym, ◌∙◌, subst, append-nil}
+use Rattle.std.proofs.Common.{◌≡◌, ℕ, ◌+◌, ◌<◌, ◌≤◌, Bool, true, false, not, ◌&&◌, cond, List, [], ◌∷◌, ◌++◌, length, take, get_or, inl, refl, sym, ap, ◌∙◌, subst, filter, append-nil}
 use Rattle.std.specs.Prelude.{Option, None, Some}
 use Rattle.std.specs.List.{Contains, list_any}
 use Rattle.std.specs.Option.{MatchOption}
@@ -10,9 +10,11 @@ use Rattle.std.proofs.lemmas.List.Folds.{list_any-append}
 use Rattle.dt_graph.specs.Graph.{Link}
 use Rattle.dt_definitions.specs.declared.defined.Defined.{Defined}
 use Rattle.dt_scratch.specs.Resolve.{are_below, is_more_specific_at}
-use Rattle.dt_scratch.specs.Among.{applicable_among, is_better, IsTransitive}
+use Rattle.dt_scratch.specs.Among.{applicable_among, beats, IsAlone, is_better, IsTransitive}
 use Rattle.dt_scratch.proofs.MoreSpecific.{is_more_specific-irreflexive}
-use Rattle.dt_scratch.proofs.Members.{In, In-append, In-push, Contains-from_In, none_at, none_from}
+use Rattle.dt_graph.proofs.ListMembers.{In, In-append, In-push, Contains-from_In, filter-filter, none_at, none_from}
+use Rattle.std.proofs.lemmas.List.Sums.{length-filter}
+use Rattle.dt_scratch.proofs.StrictOrder.{lower_is_alone, stays_alone}
 
 -- whether a definition of the list is more specific
 abbrev pub is_beaten : List Link → List Defined → Defined → Bool
@@ -49,6 +51,33 @@ IsBest-worse : (links : List Link) (found : List Defined) (best : Option Defined
 IsBest-worse links found None d h e = absurd (cc)
 IsBest-worse links found (Some b) d h e = (In-append found (d ∷ []) b h.0, is_beaten-push links found d b h.1 e)
 
+-- ---- the best that is more specific than all others
+
+-- where there is a best, it is the only one that doesn't lose to it
+abbrev pub IsLowest : List Link → List Defined → Option Defined → Type 0
+IsLowest links found best = MatchOption best (Unit {0}) (λ b.
+    length (filter (λ d. not (is_more_specific_at links b.classes d.classes)) found) ≡ 1)
+
+module _ (links : List Link) (chains : IsTransitive links) (found : List Defined) where
+  abbrev less : Defined → Defined → Bool
+  less a b = is_more_specific_at links a.classes b.classes
+
+  IsLowest-better : (best : Option Defined) (d : Defined) → IsBest links found best → IsLowest links found best →
+      is_better links d best ≡ true → IsLowest links (found ++ d ∷ []) (Some d)
+  IsLowest-better None d is_best lowest e =
+      subst (λ xs. IsLowest links (xs ++ d ∷ []) (Some d)) (sym is_best)
+      (ap (λ b. length (cond (not b) (d ∷ []) [])) (is_more_specific-irreflexive links d.classes))
+  IsLowest-better (Some b) d is_best lowest e =
+      lower_is_alone less (λ x. is_more_specific-irreflexive links x.classes) (λ x y z. chains x.classes y.classes z.classes)
+      found b d is_best.0 lowest e
+
+  IsLowest-beats : (best : Option Defined) (d : Defined) → IsLowest links found best →
+      beats links best d ≡ true → IsLowest links (found ++ d ∷ []) best
+  IsLowest-beats None d lowest e = tt
+  IsLowest-beats (Some b) d lowest e =
+      stays_alone less (λ x. is_more_specific-irreflexive links x.classes) (λ x y z. chains x.classes y.classes z.classes)
+      found b d lowest e
+
 -- the best of all
 pub found_best : (links : List Link) (classes : List ℕ) (defined : List Defined) (i : ℕ) (best : Option Defined) →
     length defined ≤ i → IsBest links (applicable_among links classes (take i defined)) best →
@@ -59,6 +88,18 @@ found_best links classes defined i None e h = rw take_all at h
 found_best links classes defined i (Some b) e h =
     let all = subst (λ xs. IsBest links (applicable_among links classes xs) (Some b)) (take_all i defined e) h in
     (Contains-from_In _ b all.0, all.1)
+
+-- the lowest of all
+pub found_lowest : (links : List Link) (classes : List ℕ) (defined : List Defined) (i : ℕ) (best : Option Defined) →
+    length defined ≤ i → IsLowest links (applicable_among links classes (take i defined)) best →
+    IsAlone links classes defined best
+found_lowest links classes defined i None e h = tt
+found_lowest links classes defined i (Some b) e h =
+    let all = subst (λ xs. IsLowest links (applicable_among links classes xs) (Some b)) (take_all i defined e) h in
+    sym (length-filter (λ d. are_below links classes d.classes && not (is_more_specific_at links b.classes d.classes)) defined)
+    ∙ ap length (sym (filter-filter (λ d. are_below links classes d.classes)
+    (λ d. not (is_more_specific_at links b.classes d.classes)) defined))
+    ∙ all
 
 module _ (links : List Link) (classes : List ℕ) (defined : List Defined) (i : ℕ) (best : Option Defined) (d : Defined)
     (within : i < length defined) (is : d ≡ get_or defined i d)
@@ -84,3 +125,19 @@ module _ (links : List Link) (classes : List ℕ) (defined : List Defined) (i : 
   pub IsBest-passes : are_below links classes d.classes ≡ false →
       IsBest links (applicable_among links classes (take (i + 1) defined)) best
   IsBest-passes e = rw (one_more false e, append-nil) before
+
+  -- and whether the best stays the lowest
+  pub IsLowest-takes : IsTransitive links → are_below links classes d.classes ≡ true → is_better links d best ≡ true →
+      IsLowest links (applicable_among links classes (take i defined)) best →
+      IsLowest links (applicable_among links classes (take (i + 1) defined)) (Some d)
+  IsLowest-takes chains e f lowest = rw (one_more true e) (IsLowest-better links chains _ best d before lowest f)
+
+  pub IsLowest-keeps : IsTransitive links → are_below links classes d.classes ≡ true → beats links best d ≡ true →
+      IsLowest links (applicable_among links classes (take i defined)) best →
+      IsLowest links (applicable_among links classes (take (i + 1) defined)) best
+  IsLowest-keeps chains e f lowest = rw (one_more true e) (IsLowest-beats links chains _ best d lowest f)
+
+  pub IsLowest-passes : are_below links classes d.classes ≡ false →
+      IsLowest links (applicable_among links classes (take i defined)) best →
+      IsLowest links (applicable_among links classes (take (i + 1) defined)) best
+  IsLowest-passes e lowest = rw (one_more false e, append-nil) lowest

@@ -30,6 +30,6 @@ no_selector selectors number lawful far = not_found selectors (recursion_from_Al
     not_found (s ∷ rest) all =
         rw (ne_eqb s.number number (λ e. far (subst (λ v. v < SELECTORS) e all.0.0))) (not_found rest all.1)
 
--- the first place that isn't live, from a place on
+-- the first position that isn't live, from a position on
 abbrev pub dead_from : Graph → List ℕ → ℕ → Option ℕ
 dead_from graph classes index = first_dead graph (1 + index) (drop index classes)

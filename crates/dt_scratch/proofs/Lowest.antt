@@ -1,6 +1,6 @@
 -- Answers by the lowest of the applicable definitions.
-use Rattle.std.proofs.Common.{◌≡◌, ◌==◌, ℕ, ◌<◌, ◌≤◌, Bool, true, false, ◌&&◌, not, IsTrue, List, [], ◌∷◌, length, inl, ⊎_elim, refl, sym, ap, subst, arith}
-use Rattle.std.specs.List.{filter, count_by}
+use Rattle.std.proofs.Common.{◌≡◌, ◌↔◌, ◌==◌, ℕ, ◌<◌, ◌≤◌, Bool, true, false, ◌&&◌, not, IsTrue, List, [], ◌∷◌, length, inl, ⊎_elim, refl, sym, ap, subst, arith}
+use Rattle.std.specs.List.{filter}
 use Rattle.std.proofs.lemmas.Bool.{and_parts, and_from, both_ways, false_from_ne_true, not_from_false}
 use Rattle.std.proofs.lemmas.List.Sums.{length-filter}
 use Rattle.dt_graph.specs.Graph.{Link}
@@ -9,10 +9,15 @@ use Rattle.dt_definitions.specs.Program.{Definition, Program, same_classes, is_d
 use Rattle.dt_scratch.specs.declared.reply.Answer.TheVariants.{Method, NotUnderstood}
 use Rattle.dt_scratch.specs.Among.{IsTransitive}
 use Rattle.dt_scratch.specs.Query.{Query}
-use Rattle.dt_scratch.specs.Resolve.{are_below, applicable, is_more_specific, minimal, answer_by}
-use Rattle.dt_scratch.specs.Laws.{LowestAnswers, MethodsAreLowest, NotUnderstoodWhereNone}
-use Rattle.dt_scratch.proofs.MoreSpecific.{is_more_specific-irreflexive, same_classes-refl, same_from_classes}
-use Rattle.dt_scratch.proofs.Members.{In, All-In, All-from_In, Contains-from_In, In-from_Contains, In-filter, In-from_filter, none_from, filter-filter, filter_fewer}
+use Rattle.dt_scratch.specs.Resolve.{are_below, applicable, is_more_specific, minimal, answer_by, answer}
+use Rattle.dt_scratch.specs.Laws.{IsLowest, LowestAnswers, MethodsAreInRange, MethodsAreLowest, NotUnderstoodWhereNone}
+use Rattle.dt_scratch.proofs.MoreSpecific.{is_more_specific-irreflexive, is_more_specific-transitive, same_classes-refl, same_from_classes}
+use Rattle.dt_graph.proofs.ListMembers.{In, All-In, All-from_In, Contains-from_In, In-from_Contains, In-filter, In-from_filter, none_from, filter-filter, filter_fewer}
+use Rattle.dt_graph.proofs.Walks.{is_below_self, is_below_trans}
+use Rattle.dt_graph.proofs.LawfulChanges.{antisymmetric}
+use Rattle.dt_definitions.specs.Lawful.{Lawful, LawfulDefinition}
+use Rattle.dt_definitions.proofs.DefinedOnce.{defined-once}
+use Rattle.dt_selectors.specs.declared.limits.TheConstants.{BODIES}
 use Rattle.dt_scratch.proofs.StrictOrder.{least, descend, alone, least_is_c}
 
 has_some : {T : Type 0} (xs : List T) (x : T) → In xs x → 0 < length xs
@@ -89,14 +94,20 @@ module _ (links : List Link) (chains : IsTransitive links) (reflexive : (class :
         same_classes d.classes other.classes ≡ true
     same_if_not_less d other i below n = let h = below other i in grind arith
 
-module _ (program : Program) (chains : IsTransitive program.graph.links)
-    (reflexive : (class : ℕ) → IsTrue (is_below program.graph.links class class))
-    (defined_once : (selector : ℕ) (classes : List ℕ) → count_by (is_definition selector classes) program.definitions ≤ 1) where
+module _ (program : Program) (lawful : Lawful program) where
   abbrev links : List Link
   links = program.graph.links
 
-  pub methods_are_lowest : MethodsAreLowest program
-  methods_are_lowest query body e =
+  chains : IsTransitive program.graph.links
+  chains = is_more_specific-transitive program.graph.links
+      (antisymmetric program.graph.links lawful.graph.no_cycle) (is_below_trans program.graph.links)
+
+  reflexive : (class : ℕ) → IsTrue (is_below program.graph.links class class)
+  reflexive = is_below_self program.graph.links
+
+  lowest_of_method : (query : Query) (body : ℕ) → answer program query ≡ Method body →
+      (d : Definition) × IsLowest program query d × (d.body ≡ body)
+  lowest_of_method query body e =
       let found = applicable program query in
       let h = method_is_below links chains reflexive found body (minimal links found) refl e in
       (h.0, (Contains-from_In found h.0 h.1.0, All-from_In _ found h.1.1), h.2)
@@ -115,11 +126,11 @@ module _ (program : Program) (chains : IsTransitive program.graph.links)
         ap length (filter-filter found at program.definitions),
         fewer,
         length-filter (is_definition query.selector classes) program.definitions,
-        defined_once query.selector classes,
+        defined-once query.selector classes program.definitions lawful.definitions_ascend,
       )
 
-  pub lowest_answers : LowestAnswers program
-  lowest_answers query d lowest =
+  method_of_lowest : (query : Query) (d : Definition) → IsLowest program query d → answer program query ≡ Method d.body
+  method_of_lowest query d lowest =
       let found = applicable program query in
       let i = In-from_Contains found d lowest.0 in
       let below : IsBelowAll links chains reflexive found d = λ other j. All-In (λ x. IsTrue (are_below links d.classes x.classes)) found other lowest.1 j in
@@ -131,8 +142,27 @@ module _ (program : Program) (chains : IsTransitive program.graph.links)
       ap answer_by (alone (is_more_specific links) (irreflexive links chains reflexive) (transitive links chains reflexive) found d
       (below_is_least links chains reflexive found d i below) one)
 
-  pub not_understood_where_none : NotUnderstoodWhereNone program
-  not_understood_where_none query = (
+  where_none : (query : Query) → (answer program query ≡ NotUnderstood) ↔ (applicable program query ≡ [])
+  where_none query = (
     (λ e. let found = applicable program query in not_understood links chains reflexive found (minimal links found) refl e),
     (λ e. ap (λ found. answer_by (minimal links found)) e),
   )
+
+pub methods_are_lowest : MethodsAreLowest
+methods_are_lowest = lowest_of_method
+
+pub lowest_answers : LowestAnswers
+lowest_answers = method_of_lowest
+
+pub not_understood_where_none : NotUnderstoodWhereNone
+not_understood_where_none = where_none
+
+-- the method is that of one of the program's definitions
+pub methods_are_in_range : MethodsAreInRange
+methods_are_in_range program lawful query body e =
+    let lowest = methods_are_lowest program lawful query body e in
+    let test : Definition → Bool = λ d. (d.selector == query.selector) && are_below program.graph.links query.classes d.classes in
+    let there = In-from_filter test program.definitions lowest.0
+    (In-from_Contains (applicable program query) lowest.0 lowest.1.0) in
+    subst (λ n. n < BODIES) lowest.2
+    (All-In (LawfulDefinition program) program.definitions lowest.0 lawful.definitions_lawful there.0).body_in_range

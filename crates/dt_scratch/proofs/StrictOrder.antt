@@ -1,8 +1,9 @@
 -- Lists under a strict order: the elements that have none less than them.
-use Rattle.std.proofs.Common.{◌≡◌, Bool, true, false, not, List, [], ◌∷◌, length, ◌⊎◌, inl, inr, ⊎_elim, refl, sym, ap, ◌∙◌, subst, arith}
+use Rattle.std.proofs.Common.{◌≡◌, Bool, true, false, not, cond, List, [], ◌∷◌, ◌++◌, length, append-nil, ◌⊎◌, inl, inr, ⊎_elim, refl, sym, ap, ◌∙◌, subst, arith}
 use Rattle.std.specs.List.{filter, list_any}
 use Rattle.std.proofs.lemmas.Bool.{both_ways, or_from, false_from_ne_true, true_from_ne_false, not_from_false}
-use Rattle.dt_scratch.proofs.Members.{by_cases, In, In-filter, In-from_filter, none_at, filter_agree_in, filter-weaker}
+use Rattle.std.proofs.lemmas.List.Elements.{filter-append}
+use Rattle.dt_graph.proofs.ListMembers.{by_cases, filter_none_in, In, In-filter, In-from_filter, none_at, filter_agree_in, filter-weaker}
 
 -- none of the list is less than the element
 abbrev pub none_less : {T : Type 0} → (T → T → Bool) → List T → T → Bool
@@ -48,6 +49,42 @@ module _ {T : Type 0} (less : T → T → Bool) (irreflexive : (x : T) → less 
       by_cases (less z m)
       (λ e. let d = descend zs z in (d.0, step_down z zs m d.0 e d.1))
       (λ e. let d = descend zs m in (d.0, stay z zs m d.0 e d.1))
+
+  -- of a list with one element two are equal
+  only_one : (ys : List T) → length ys ≡ 1 → (x y : T) → In ys x → In ys y → x ≡ y
+  only_one [] n x y i j = absurd i
+  only_one (z ∷ []) n x y (inl p) (inl q) = p ∙ sym q
+  only_one (z ∷ []) n x y (inl p) (inr j) = absurd j
+  only_one (z ∷ []) n x y (inr i) j = absurd i
+  only_one (z ∷ z' ∷ ys) n x y i j = absurd (omega (arith, n))
+
+  -- what is less than an element that is less than all others of a list is less than all of it
+  less_than_all : (xs : List T) (c d : T) → In xs c → length (filter (λ x. not (less c x)) xs) ≡ 1 → less d c ≡ true →
+      (x : T) → In xs x → not (less d x) ≡ false
+  less_than_all xs c d here one below x i = ap not (by_cases (less c x)
+      (λ l. transitive d c x below l)
+      (λ n.
+      let same = only_one (filter (λ y. not (less c y)) xs) one c x
+      (In-filter (λ y. not (less c y)) xs c here (ap not (irreflexive c)))
+      (In-filter (λ y. not (less c y)) xs x i (ap not n)) in
+      subst (λ y. less d y ≡ true) same below))
+
+  -- so with it at the end it is less than all others
+  pub lower_is_alone : (xs : List T) (c d : T) → In xs c → length (filter (λ x. not (less c x)) xs) ≡ 1 →
+      less d c ≡ true → length (filter (λ x. not (less d x)) (xs ++ d ∷ [])) ≡ 1
+  lower_is_alone xs c d here one below =
+      ap length (filter-append (λ x. not (less d x)) xs (d ∷ [])
+      ∙ ap (λ ys. ys ++ filter (λ x. not (less d x)) (d ∷ []))
+      (filter_none_in (λ x. not (less d x)) xs (less_than_all xs c d here one below))
+      ∙ ap (λ b. cond (not b) (d ∷ []) []) (irreflexive d))
+
+  -- and one that it is less than changes nothing
+  pub stays_alone : (xs : List T) (c d : T) → length (filter (λ x. not (less c x)) xs) ≡ 1 → less c d ≡ true →
+      length (filter (λ x. not (less c x)) (xs ++ d ∷ [])) ≡ 1
+  stays_alone xs c d one below =
+      ap length (filter-append (λ x. not (less c x)) xs (d ∷ [])
+      ∙ ap (λ b. filter (λ x. not (less c x)) xs ++ cond (not b) (d ∷ []) []) below
+      ∙ append-nil (filter (λ x. not (less c x)) xs)) ∙ one
 
   -- an element that has none less than it, and the elements that it isn't less than
   module _ (xs : List T) (c : T) (is_least : In (least less xs) c) where

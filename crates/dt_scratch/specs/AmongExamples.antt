@@ -4,10 +4,10 @@ use Rattle.std.proofs.Common.{arith}
 use Rattle.dt_graph.specs.Graph.{Link}
 use Rattle.dt_definitions.specs.declared.defined.Defined.{Defined}
 use Rattle.dt_scratch.specs.declared.reply.Answer.TheVariants.{Method, Ambiguous}
-use Rattle.dt_scratch.specs.Among.{answer_among, applicable_among, IsTransitive, is_better, count_unbeaten}
+use Rattle.dt_scratch.specs.Among.{answer_among, applicable_among, beats, HasAllApplicable, IsAlone, IsTransitive, is_better, count_unbeaten}
 use Rattle.dt_scratch.specs.QueryParts.{IsPadded, pad}
 use Rattle.dt_scratch.specs.Resolve.{is_more_specific_at}
-use Rattle.dt_scratch.specs.Examples.{A, B, C, D, f, at, diamond_graph}
+use Rattle.dt_scratch.specs.Examples.{A, B, C, D, f, asks, at, diamond, diamond_graph}
 
 abbrev links : List Link
 links = diamond_graph.links
@@ -30,7 +30,7 @@ answer_at_b = refl
 answer_at_d : answer_among links (D ∷ []) (at f A 5 ∷ at f B 10 ∷ at f C 20 ∷ []) ≡ Ambiguous
 answer_at_d = refl
 
--- lower in one place and the same in the other is more specific; lower in one and higher in the other isn't
+-- lower in one position and the same in the other is more specific; lower in one and higher in the other isn't
 lower_in_one : is_more_specific_at links (B ∷ A ∷ []) (A ∷ A ∷ []) ≡ true
 lower_in_one = refl
 
@@ -65,7 +65,31 @@ only_the_best = refl
 c_does_not_count : count_unbeaten links (B ∷ []) (kept B 10) (kept A 5 ∷ kept B 10 ∷ kept C 20 ∷ []) ≡ 1
 c_does_not_count = refl
 
--- the places after the classes hold 0, and there is a class
+-- the best so far is more specific than one above it, and not than one beside it
+b_beats_a : beats links (Some (kept B 10)) (kept A 5) ≡ true
+b_beats_a = refl
+
+b_does_not_beat_c : beats links (Some (kept B 10)) (kept C 20) ≡ false
+b_does_not_beat_c = refl
+
+none_beats_none : beats links None (kept C 20) ≡ false
+none_beats_none = refl
+
+-- at D the one at D is alone, and without it that at B isn't
+d_is_alone : IsAlone links (D ∷ []) (kept B 10 ∷ kept C 20 ∷ kept D 30 ∷ []) (Some (kept D 30))
+d_is_alone = refl
+
+b_is_not_alone : IsAlone links (D ∷ []) (kept B 10 ∷ kept C 20 ∷ []) (Some (kept B 10)) → ⊥
+b_is_not_alone alone = omega (arith, alone)
+
+-- to answer at B in the diamond the definition at B is enough, and that at C isn't
+b_is_enough : HasAllApplicable diamond (asks f B) (kept B 10 ∷ [])
+b_is_enough = refl
+
+c_is_not_enough : HasAllApplicable diamond (asks f B) (kept C 20 ∷ []) → ⊥
+c_is_not_enough same = cc
+
+-- the positions after the classes hold 0, and there is a class
 one_class : IsPadded 1 (3 ∷ 0 ∷ 0 ∷ 0 ∷ [])
 one_class = record { some = omega arith; few = omega arith; four = refl; padded = refl }
 

@@ -76,7 +76,7 @@ unlink_settles :
     reply (program_of (unlink_effect diamond_graph D C) diamond_definitions) (asks f D) ≡ Answered (Method 10)
 unlink_settles = refl
 
--- below in every place, with as many places
+-- below in every position, with as many positions
 below_itself : are_below diamond_graph.links (D ∷ A ∷ []) (D ∷ A ∷ []) ≡ true
 below_itself = refl
 
@@ -194,14 +194,14 @@ small = record {
 second_class : reply small (asks_two 5 0 9) ≡ NoClass 2
 second_class = refl
 
--- places are counted on from the given one, and all that are live have none
+-- positions are counted on from the given one, and all that are live have none
 counted_on : first_dead small.graph 3 (0 ∷ 0 ∷ 7 ∷ 9 ∷ []) ≡ Some 5
 counted_on = refl
 
 none_dead : first_dead small.graph 1 (0 ∷ 0 ∷ []) ≡ None
 none_dead = refl
 
--- neither is, and the first place is told
+-- neither is, and the first position is told
 first_of_two : reply small (asks_two 5 9 9) ≡ NoClass 1
 first_of_two = refl
 
@@ -251,7 +251,7 @@ of_other_classes = refl
 arity_is_two : arity_of_query (asks_two 1 3 9) ≡ 2
 arity_is_two = refl
 
--- Its classes are kept in the first of four places.
+-- Its classes are kept in the first of four positions.
 kept_in_front : pad (3 ∷ 9 ∷ []) ≡ 3 ∷ 9 ∷ 0 ∷ 0 ∷ []
 kept_in_front = refl
 

@@ -10,19 +10,19 @@ use Rattle.dt_scratch.specs.declared.reply.Answer.TheVariants.{Method, NotUnders
 use Rattle.dt_scratch.specs.declared.reply.Reply.{Reply}
 use Rattle.dt_scratch.specs.declared.reply.Reply.TheVariants.{NoSelector, WrongArity, NoClass, Answered}
 
--- whether each class of the first list is below the class in the same place of the second, and the lists are as long
+-- whether each class of the first list is below the class in the same position of the second, and the lists are as long
 abbrev pub are_below : List Link → List ℕ → List ℕ → Bool
 are_below links [] [] = true
 are_below links [] (high ∷ highs) = false
 are_below links (low ∷ lows) [] = false
 are_below links (low ∷ lows) (high ∷ highs) = is_below links low high && are_below links lows highs
 
--- the definitions of the query's selector whose every class has the query's class of the same place below it
+-- the definitions of the query's selector whose every class has the query's class of the same position below it
 abbrev pub applicable : Program → Query → List Definition
 applicable p query =
     filter (λ d. (d.selector == query.selector) && are_below p.graph.links query.classes d.classes) p.definitions
 
--- whether the first list of classes is another than the second, and at least as specific in every place
+-- whether the first list of classes is another than the second, and at least as specific in every position
 abbrev pub is_more_specific_at : List Link → List ℕ → List ℕ → Bool
 is_more_specific_at links a b = not (same_classes a b) && are_below links a b
 
@@ -30,7 +30,7 @@ is_more_specific_at links a b = not (same_classes a b) && are_below links a b
 abbrev pub is_more_specific : List Link → Definition → Definition → Bool
 is_more_specific links a b = is_more_specific_at links a.classes b.classes
 
--- those of the definitions for which no other has, in every place, a class below theirs
+-- those of the definitions for which no other has, in every position, a class below theirs
 abbrev pub minimal : List Link → List Definition → List Definition
 minimal links definitions =
     filter (λ d. not (list_any (λ other. is_more_specific links other d) definitions)) definitions
@@ -45,15 +45,15 @@ answer_by (d ∷ e ∷ definitions) = Ambiguous
 abbrev pub answer : Program → Query → Answer
 answer p query = answer_by (minimal p.graph.links (applicable p query))
 
--- the first place, from the given one on, whose class isn't live
+-- the first position, from the given one on, whose class isn't live
 abbrev pub first_dead : Graph → ℕ → List ℕ → Option ℕ
-first_dead graph place [] = None
-first_dead graph place (class ∷ classes) =
-    if is_live graph class then first_dead graph (place + 1) classes else Some place
+first_dead graph position [] = None
+first_dead graph position (class ∷ classes) =
+    if is_live graph class then first_dead graph (position + 1) classes else Some position
 
 -- the reply to a query whose selector takes as many arguments: by the first class that isn't live, or by the answer
 abbrev pub reply_by_classes : Option ℕ → Answer → Reply
-reply_by_classes (Some place) a = NoClass place
+reply_by_classes (Some position) a = NoClass position
 reply_by_classes None a = Answered a
 
 -- the reply by the selector's arity
@@ -61,7 +61,7 @@ abbrev pub reply_by_arity : Option ℕ → ℕ → Reply → Reply
 reply_by_arity None asked rest = NoSelector
 reply_by_arity (Some arity) asked rest = if arity == asked then rest else WrongArity
 
--- the reply to a query: no selector; another arity; the first place, from 1, whose class isn't live; or the answer
+-- the reply to a query: no selector; another arity; the first position, from 1, whose class isn't live; or the answer
 abbrev pub reply : Program → Query → Reply
 reply p query = reply_by_arity (arity_of p query.selector) (arity_of_query query)
     (reply_by_classes (first_dead p.graph 1 query.classes) (answer p query))

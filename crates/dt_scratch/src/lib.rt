@@ -7,22 +7,14 @@ mod live;
 mod look_up;
 mod query;
 mod reply;
+mod sharing;
 mod specificity;
 
+pub use among::answer_among;
 pub use laws::{
-    law_of_answers, law_of_cells, order_is_free, others_keep_their_reply, top_sees_itself,
+    edits_change_what_they_concern, law_of_answers, law_of_cells, others_keep_their_cell,
+    parts_are_enough, top_sees_itself,
 };
 pub use look_up::resolve;
 pub use query::Query;
 pub use reply::{Answer, Change, Reply};
-
-#[cfg(test)]
-mod chance;
-#[cfg(test)]
-mod example;
-#[cfg(test)]
-mod second_look_up;
-#[cfg(test)]
-mod tally;
-#[cfg(test)]
-mod tests;

@@ -15,11 +15,11 @@ fn live_class(graph: &ClassGraph, number: u16) -> Option<ClassNo>
     ClassNo::new(number).filter(|class| graph.is_live(*class))
 }
 
-/// The classes of the query, or the first place, from 1, whose class isn't live.
+/// The classes of the query, or the first position, from 1, whose class isn't live.
 pub(crate) fn live_classes(graph: &ClassGraph, query: &Query) -> Result<ArrayVec<ClassNo, 4>, u8>
     ensures { MatchResult result
         (λ live. (live.items ≡ query.now.classes) × (first_dead graph.now 1 query.now.classes ≡ None))
-        (λ place. first_dead graph.now 1 query.now.classes ≡ Some place) }
+        (λ position. first_dead graph.now 1 query.now.classes ≡ Some position) }
 {
     let mut live = ArrayVec::new();
     for (index, number) in query.classes().iter().enumerate() {

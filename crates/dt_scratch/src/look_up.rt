@@ -9,8 +9,11 @@ use dt_definitions::Program;
 use dt_selectors::SelNo;
 
 /// The reply to a query, by look-up from scratch. The first of these that holds: the selector isn't live; it takes another
-/// number of arguments; the class in a place, the first such, isn't live; else the answer of the applicable definitions. It
-/// takes no memory.
+/// number of arguments; the class in a position, the first such, isn't live; else the answer of the applicable
+/// definitions.
+///
+/// It takes no memory. The time grows with the number of definitions of the query's selector, as that of
+/// [`answer_among`](crate::answer_among); not with those of others, nor with the classes, links or selectors.
 #[tactic(auto, using(crate::proofs::LiveNumbers::no_selector))]
 pub fn resolve(program: &Program, query: &Query) -> Reply
     ensures { result ≡ reply program.now query.now }

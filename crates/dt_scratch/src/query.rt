@@ -5,13 +5,14 @@ ghost use Rattle.std.specs.Cmp.Rules.{comparing};
 ghost use Rattle.std.specs.Option.{SomeIff};
 ghost use Rattle.std.specs.Ordering.{as_partial_cmp};
 ghost use Rattle.dt_definitions.specs.Place.{at_place};
-ghost use Rattle.dt_scratch.specs.Query.{Query, arity_of_query, is_same_query, query_order};
+ghost use Rattle.dt_scratch.specs.Query.{Query, arity_of_query, is_same_query, LawfulQuery, query_order};
 
 use std::cmp::Ordering;
+use std::fmt;
 use std::marker::Model;
 
 /// How many classes a query may have.
-const PLACES: usize = 4;
+const POSITIONS: usize = 4;
 
 /// A query: a selector is sent to one to four classes, one for each argument. The numbers are any `u16`, also
 /// those that no selector or class can have.
@@ -21,7 +22,7 @@ const PLACES: usize = 4;
 pub struct Query {
     selector: u16,
     arity: u8,
-    places: [u16; PLACES],
+    positions: [u16; POSITIONS],
 }
 
 impl Model for Query {
@@ -33,16 +34,16 @@ impl Model for Query {
     ghost use Rattle.std.proofs.Common.{arith, length-take-le};
     ghost use Rattle.dt_scratch.specs.QueryParts.{IsPadded, pad};
 
-    ghost view = { λ q. record { selector = q.selector; classes = take q.arity q.places } };
+    ghost view = { λ q. record { selector = q.selector; classes = take q.arity q.positions } };
 
-    ghost invariant = { λ q. IsPadded q.arity q.places };
+    ghost invariant = { λ q. IsPadded q.arity q.positions };
 
-    ghost inverse = { λ q. record { selector = q.selector; arity = length q.classes; places = pad q.classes } };
+    ghost inverse = { λ q. record { selector = q.selector; arity = length q.classes; positions = pad q.classes } };
 
     ghost inverse_ok = { λ q h i. record {
       selector = q.selector;
-      arity = length-take-le q.arity q.places (omega (arith, h.few, h.four)) i;
-      places = h.padded i;
+      arity = length-take-le q.arity q.positions (omega (arith, h.few, h.four)) i;
+      positions = h.padded i;
     } };
 }
 
@@ -52,7 +53,7 @@ impl Query {
         ensures { SomeIff result ((0 < length classes.now) × (length classes.now ≤ 4))
             (record { selector = selector; classes = classes.now }) }
     {
-        let places = match *classes {
+        let positions = match *classes {
             [a] => [a, 0, 0, 0],
             [a, b] => [a, b, 0, 0],
             [a, b, c] => [a, b, c, 0],
@@ -62,8 +63,15 @@ impl Query {
         Some(Query {
             selector,
             arity: classes.len() as u8,
-            places,
+            positions,
         })
+    }
+
+    /// What holds of every query. It does nothing: a caller whose reasoning needs this calls it.
+    pub fn law(&self)
+        ensures { LawfulQuery self.now }
+    {
+        let [_first, _second, _third, _fourth] = self.positions;
     }
 
     /// The number of the selector.
@@ -89,12 +97,24 @@ impl Query {
         self.classes().get(place).copied()
     }
 
-    /// The numbers of the classes, in the order of their places.
+    /// The numbers of the classes, in the order of their positions.
     pub fn classes(&self) -> &[u16]
         ensures value { result.now ≡ self.now.classes }
         ensures in_range { (0 < length result.now) × (length result.now ≤ 4) }
     {
-        &self.places[..usize::from(self.arity)]
+        &self.positions[..usize::from(self.arity)]
+    }
+}
+
+/// The number of the selector, and those of the classes, with a space before each.
+impl fmt::Display for Query {
+    fn fmt<W: fmt::Write>(&self, f: &mut fmt::Formatter<W>) -> fmt::Result {
+        let selector = self.selector;
+        write!(f, "{selector}")?;
+        for class in self.classes() {
+            write!(f, " {class}")?;
+        }
+        Ok(())
     }
 }
 

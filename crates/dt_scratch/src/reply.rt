@@ -1,5 +1,6 @@
 use crate::query::Query;
 use dt_definitions::BodyNo;
+use std::fmt;
 
 /// What a query whose selector, arity and classes are right is answered by.
 #[derive(Clone, Copy, Debug, PartialEq, Eq)]
@@ -32,4 +33,30 @@ pub struct Change {
     pub query: Query,
     /// Its new answer.
     pub answer: Answer,
+}
+
+/// As a person reads it: `method` with the number of its body, `not understood` or `ambiguous`.
+impl fmt::Display for Answer {
+    fn fmt<W: fmt::Write>(&self, f: &mut fmt::Formatter<W>) -> fmt::Result {
+        match self {
+            Answer::Method { body } => {
+                let body = body.number();
+                write!(f, "method {body}")
+            }
+            Answer::NotUnderstood => f.write_str("not understood"),
+            Answer::Ambiguous => f.write_str("ambiguous"),
+        }
+    }
+}
+
+/// As a person reads it: why there is no answer, with the place of the class, or the answer.
+impl fmt::Display for Reply {
+    fn fmt<W: fmt::Write>(&self, f: &mut fmt::Formatter<W>) -> fmt::Result {
+        match self {
+            Reply::NoSelector => f.write_str("no selector"),
+            Reply::WrongArity => f.write_str("wrong arity"),
+            Reply::NoClass { place } => write!(f, "no class at place {place}"),
+            Reply::Answered { answer } => write!(f, "{answer}"),
+        }
+    }
 }

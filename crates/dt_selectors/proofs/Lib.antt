@@ -2,3 +2,6 @@ pub mod Arities
 pub mod LawfulChanges
 pub mod Rows
 pub mod Texts
+pub mod NameLists
+pub mod LiveLists
+pub mod Undoing

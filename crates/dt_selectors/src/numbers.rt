@@ -1,11 +1,12 @@
 ghost use Rattle.std.specs.Prelude.{◌≡◌, ℕ, ◌<◌, ◌≤◌};
 ghost use Rattle.std.specs.Option.{SomeIff};
+ghost use Rattle.dt_selectors.specs.declared.limits.TheConstants.{BODIES, SELECTORS};
 
 use crate::limits::SELECTORS;
 use std::marker::Model;
 
 /// The number of a selector, below [`SELECTORS`].
-#[derive(Clone, Copy, Debug, Default, PartialEq, Eq, PartialOrd, Ord)]
+#[derive(Clone, Copy, Debug, PartialEq, Eq, PartialOrd, Ord)]
 pub struct SelNo {
     number: u16,
 }
@@ -21,6 +22,15 @@ impl Model for SelNo {
     ghost invariant = { λ s. s.number < SELECTORS };
 
     ghost inverse = { λ n. record { number = n } };
+}
+
+impl Default for SelNo {
+    /// The selector of the number 0.
+    fn default() -> SelNo
+        ensures { result ≡ 0 }
+    {
+        SelNo { number: 0 }
+    }
 }
 
 impl SelNo {
@@ -42,22 +52,44 @@ impl SelNo {
     {
         self.number
     }
+
+    // The selector of a number in range.
+    pub(crate) fn from_index(index: usize) -> SelNo
+        requires { index < SELECTORS }
+        ensures { result ≡ index }
+    {
+        SelNo {
+            number: index as u16,
+        }
+    }
 }
 
 /// The number of a body, any `u16`. A body is what answers a send; here it is a number alone.
-#[derive(Clone, Copy, Debug, Default, PartialEq, Eq, PartialOrd, Ord)]
+#[derive(Clone, Copy, Debug, PartialEq, Eq, PartialOrd, Ord)]
 pub struct BodyNo {
     number: u16,
 }
 
 impl Model for BodyNo {
-    ghost use Rattle.std.specs.Prelude.{ℕ, ◌<◌, ◌^◌};
+    ghost use Rattle.std.specs.Prelude.{ℕ, ◌<◌};
+    ghost use Rattle.dt_selectors.specs.declared.limits.TheConstants.{BODIES};
 
     ghost Value = { ℕ };
 
     ghost view = { λ b. b.number };
 
+    ghost invariant = { λ b. b.number < BODIES };
+
     ghost inverse = { λ n. record { number = n } };
+}
+
+impl Default for BodyNo {
+    /// The body of the number 0.
+    fn default() -> BodyNo
+        ensures { result ≡ 0 }
+    {
+        BodyNo { number: 0 }
+    }
 }
 
 impl BodyNo {
@@ -70,7 +102,8 @@ impl BodyNo {
 
     /// The number.
     pub fn number(self) -> u16
-        ensures { result ≡ self }
+        ensures value { result ≡ self }
+        ensures in_range { result < BODIES }
     {
         self.number
     }

@@ -7,11 +7,11 @@ returns c = record {
   allowed = (
     omega arith,
     (
-      refl,
+      record { is_there = omega arith; is_free = refl },
       (
-        refl,
+        record { is_there = omega arith; is_free = refl },
         (
-          refl,
+          record { is_there = omega arith; is_free = refl },
           (
             record { is_free = refl; no_exit = refl; next_version = refl; top = 0; top_is_laid = refl; top_shows = tt; in_bounds = λ page met. zero_in_bounds 8192 16 0 page (omega arith) met },
             (tt, ((refl, tt), (tt, tt))),

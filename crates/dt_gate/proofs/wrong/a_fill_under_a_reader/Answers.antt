@@ -5,11 +5,11 @@ use Rattle.dt_gate.proofs.wrong.a_fill_under_a_reader.Goals as goal
 pub returns : goal.returns
 returns c = record {
   before = (
-    refl,
+    record { is_there = omega arith; is_free = refl },
     (
-      refl,
+      record { is_there = omega arith; is_free = refl },
       (
-        refl,
+        record { is_there = omega arith; is_free = refl },
         (
           record { is_free = refl; no_exit = refl; next_version = refl; top = 1; top_is_laid = refl; top_shows = tt; in_bounds = λ page met. zero_in_bounds 8192 16 1 page (omega arith) met },
           (omega arith, (refl, (refl, tt))),

@@ -4,7 +4,7 @@ use Rattle.dt_gate.proofs.wrong.a_publish_that_loads_then_stores.Goals as goal
 
 pub returns : goal.returns
 returns c = record {
-  before = (omega arith, (refl, (refl, (refl, (refl, tt)))));
+  before = (omega arith, (refl, (record { is_there = omega arith; is_free = refl }, (record { is_there = omega arith; is_free = refl }, (record { is_there = omega arith; is_free = refl }, tt)))));
   loaded = refl;
   between = refl;
   publish = record { is_free = refl; no_exit = refl; next_version = refl; top = 0; top_is_laid = refl; top_shows = tt; in_bounds = λ page met. zero_in_bounds 8192 16 0 page (omega arith) met };

@@ -13,4 +13,4 @@ returns-then-is_command-clause-complete g c = λ _ calm calm_sink.
 pub returns-else-is_command-clause-ends : goal.returns-else-is_command-clause-ends
 returns-else-is_command-clause-ends g c =
     let e = c.end_with.ensures in
-    rw e.status (refl, refl, (e.log, rw c.as_bytes.ensures.value at e.told))
+    rw e.status (refl, refl, (e.log, e.counted, rw c.as_bytes.ensures.value at e.told))

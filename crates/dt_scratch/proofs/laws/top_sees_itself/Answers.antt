@@ -2,4 +2,4 @@ use Rattle.dt_scratch.proofs.TopClasses.{top_sees_itself}
 use Rattle.dt_scratch.proofs.laws.top_sees_itself.Goals as goal
 
 pub returns : goal.returns
-returns c = top_sees_itself c.below_is_an_order.ensures.reflexive
+returns c = top_sees_itself

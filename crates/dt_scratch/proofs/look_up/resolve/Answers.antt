@@ -15,5 +15,5 @@ returns-in-Ok c =
       fits = cc;
       all_live = rw c.graph.ensures at c.in-Ok.ensures.1;
       all_found = c.definitions_of.ensures;
-      answers = c.answer_among.ensures c.in-Some.selector;
+      answers = c.answer_among.ensures.among c.in-Some.selector;
     })

@@ -1,0 +1,8 @@
+use Rattle.dt_definitions.proofs.Differing.{batches_differ, batches_keep_law}
+use Rattle.dt_definitions.proofs.laws.batches_differ_where_they_say.Goals as goal
+
+pub returns : goal.returns
+returns c = record {
+  lawful = batches_keep_law c.steps_keep_law.ensures.step;
+  differ = batches_differ;
+}

@@ -1,5 +1,0 @@
-use Rattle.dt_gate.proofs.Sweeping.{poll_decides}
-use Rattle.dt_gate.proofs.laws.a_poll_decides.Goals as goal
-
-pub returns : goal.returns
-returns g c = poll_decides

@@ -1,0 +1,68 @@
+-- Sweeps of the busy gate and of gates that differ from it in one thing, and the words of the busy gate.
+use Rattle.std.specs.Prelude.{◌≡◌, ℕ, ◌+◌, ◌^◌, ◌≤◌, Bool, true, false, List, [], ◌∷◌, refl}
+use Rattle.std.proofs.Common.{arith, inl, inr}
+use Rattle.dt_gate.specs.declared.access.Access.TheVariants.{Load, Add, Store, Swap}
+use Rattle.dt_gate.specs.declared.event.Event.TheVariants.{Look, Enter, Read, Leave, Fill, Lay, Publish, Poll}
+use Rattle.dt_gate.specs.declared.event.ReadWord.TheVariants as read
+use Rattle.dt_gate.specs.declared.event.RecordWord.TheVariants.{Top}
+use Rattle.dt_gate.specs.declared.gate.Author.{Author}
+use Rattle.dt_gate.specs.declared.gate.Standing.TheVariants.{Free}
+use Rattle.dt_gate.specs.Sweeps.{after_polls, MayBeginASweep, IsOfASweep, LeavesRoom}
+use Rattle.dt_gate.specs.Words.{words_of, access_of, accessed, found}
+use Rattle.dt_gate.specs.Busy.{two, zeros, busy, busy_author, old_root, current_root}
+
+-- ---- sweeps
+
+-- roots 0, 2 and 3 are old, with two entries each
+abbrev three_old : Author ℕ ℕ
+three_old = record busy_author {
+  roots = old_root ∷ current_root ∷ record old_root { version = 5 } ∷ record old_root { version = 6 } ∷ [];
+  held = [];
+  sweep = 1;
+  polls = [];
+}
+
+-- two have left root 2, and one each of the others: root 2 is free, the others are held, and the count is of the readers out now
+a_whole_sweep : after_polls three_old ((0, 1) ∷ (2, 2) ∷ (3, 1) ∷ []) ≡ record three_old {
+  roots = old_root ∷ current_root ∷ record old_root { version = 5; standing = Free } ∷ record old_root { version = 6 } ∷ [];
+  held = 0 ∷ 3 ∷ [];
+  sweep = 2;
+  polls = (0, 1) ∷ (2, 2) ∷ (3, 1) ∷ [];
+}
+a_whole_sweep = refl
+
+-- the next one begins anew with its first poll, since root 0 is held already
+a_second_sweep : (after_polls three_old ((0, 1) ∷ (2, 2) ∷ (3, 1) ∷ (0, 2) ∷ (3, 1) ∷ [])).held ≡ 3 ∷ []
+a_second_sweep = refl
+
+-- neither nothing is held, nor each old root: a poll of root 0 would go on with the sweep that found root 2 held
+no_sweep_begins_in_the_midst : ¬ MayBeginASweep (record three_old { held = 2 ∷ [] })
+no_sweep_begins_in_the_midst (inl none) = let is : ◌≡◌ {A = List ℕ} (2 ∷ []) [] = none in cc
+no_sweep_begins_in_the_midst (inr all) = let is : ◌≡◌ {A = Bool} false true = all 0 refl in cc
+
+a_sweep_that_polls_twice : ¬ IsOfASweep busy_author ((0, 1) ∷ (0, 1) ∷ [])
+a_sweep_that_polls_twice sweep = let is : ◌≡◌ {A = Bool} true false = sweep.once.0 in cc
+
+a_sweep_that_polls_the_current_root : ¬ IsOfASweep busy_author ((0, 1) ∷ (1, 1) ∷ [])
+a_sweep_that_polls_the_current_root sweep = let is : ◌≡◌ {A = Bool} false true = sweep.old 1 refl in cc
+
+more_old_roots_than_held : ¬ LeavesRoom two three_old
+more_old_roots_than_held room = let is : 3 ≤ 0 = room.still_old in absurd (omega (arith, is))
+
+-- ---- words
+
+-- root 1 is current, with one entry; then the record words of four roots, and the pages
+the_words : words_of busy ≡ (2 ^ 32 + 1) ∷ 1 ∷ 0 ∷ 0 ∷ 1 ∷ 1 ∷ 0 ∷ 0 ∷ 0 ∷ 0 ∷ 0 ∷ 0 ∷ 0 ∷ zeros
+the_words = refl
+
+each_access : (access_of two busy (Look 1) ≡ Load 0) × (access_of two busy (Enter 1) ≡ Add 0) × (access_of two busy (Leave 0) ≡ Add 1)
+    × (access_of two busy (Read 0 (read.Page 2 7)) ≡ Load 1044) × (access_of two busy (Fill 2 7 9) ≡ Store 1044 9)
+    × (access_of two busy (Lay 2 Top 5) ≡ Store 9 5) × (access_of two busy (Publish 2 8) ≡ Swap 0 8589934592) × (access_of two busy (Poll 0) ≡ Load 1)
+each_access = (refl, refl, refl, refl, refl, refl, refl, refl)
+
+what_a_poll_finds : found (Load 1) (words_of busy) ≡ 1
+what_a_poll_finds = refl
+
+-- an enter adds to the low half
+an_entry_more : accessed (Add 0) (4294967297 ∷ []) ≡ 4294967298 ∷ []
+an_entry_more = refl

@@ -1,0 +1,149 @@
+-- Which elements stand in a list, which of them a filter keeps, and whether any passes a test.
+use Rattle.std.proofs.Common.{◌≡◌, ◌==◌, ℕ, zero, suc, ◌<◌, ◌≤◌, Bool, true, false, ◌&&◌, ◌||◌, cond, List, [], ◌∷◌, ◌++◌, length, map, get_or, ◌⊎◌, inl, inr, ⊎_elim, refl, sym, ap, subst, ◌∙◌, arith, All, IsTrue, eqb-true, eq-eqb}
+use Rattle.std.specs.List.{Contains, filter, list_any}
+use Rattle.std.proofs.lemmas.Bool.{or_parts, or_from, or_cases, or_left, or_right, false≢true}
+use Rattle.dt_graph.specs.Graph.{has_number}
+use Rattle.std.proofs.lemmas.List.Elements.{All-nil, All-cons, All-head, All-tail, Contains-append_right}
+
+pub by_cases : {G : Type 0} (b : Bool) → (b ≡ true → G) → (b ≡ false → G) → G
+by_cases true f g = f refl
+by_cases false f g = g refl
+
+-- the element stands in the list
+abbrev pub In : {T : Type 0} → List T → T → Type 0
+In [] x = ⊥
+In (y ∷ ys) x = (x ≡ y) ⊎ In ys x
+
+module _ {T : Type 0} where
+  pub In-append : (xs ys : List T) (x : T) → In xs x → In (xs ++ ys) x
+  In-append [] ys x i = absurd i
+  In-append (z ∷ zs) ys x (inl e) = inl e
+  In-append (z ∷ zs) ys x (inr i) = inr (In-append zs ys x i)
+
+  pub In-push : (xs : List T) (x : T) → In (xs ++ x ∷ []) x
+  In-push [] x = inl refl
+  In-push (z ∷ zs) x = inr (In-push zs x)
+
+  pub Contains-from_In : (xs : List T) (x : T) → In xs x → Contains xs x
+  Contains-from_In [] x i = absurd i
+  Contains-from_In (z ∷ zs) x (inl e) = (0, omega arith, sym e)
+  Contains-from_In (z ∷ zs) x (inr i) = Contains-append_right (z ∷ []) zs x (Contains-from_In zs x i)
+
+  In-at : (xs : List T) (k : ℕ) (d x : T) → k < length xs → get_or xs k d ≡ x → In xs x
+  In-at [] k d x h e = absurd (omega arith)
+  In-at (z ∷ zs) zero d x h e = inl (sym e)
+  In-at (z ∷ zs) (suc k) d x h e = inr (In-at zs k d x (omega arith) e)
+
+  pub In-from_Contains : (xs : List T) (x : T) → Contains xs x → In xs x
+  In-from_Contains xs x c = In-at xs c.0 x x c.1 c.2
+
+module _ {T : Type 0} (p : T → Bool) where
+  pub none_at : (xs : List T) (x : T) → In xs x → list_any p xs ≡ false → p x ≡ false
+  none_at [] x i n = absurd i
+  none_at (y ∷ ys) x (inl e) n = ap p e ∙ (or_parts (p y) (list_any p ys) n).0
+  none_at (y ∷ ys) x (inr i) n = none_at ys x i (or_parts (p y) (list_any p ys) n).1
+
+  pub none_from : (xs : List T) → ((x : T) → In xs x → p x ≡ false) → list_any p xs ≡ false
+  none_from [] f = refl
+  none_from (y ∷ ys) f = or_from (p y) (list_any p ys) (f y (inl refl)) (none_from ys (λ x i. f x (inr i)))
+
+  pub In-filter : (xs : List T) (x : T) → In xs x → p x ≡ true → In (filter p xs) x
+  In-filter [] x i e = absurd i
+  In-filter (y ∷ ys) x (inl q) e = rw (← q, e) (inl refl)
+  In-filter (y ∷ ys) x (inr i) e =
+      elim (p y) as (λ v. In (cond v (y ∷ filter p ys) (filter p ys)) x) [ true ↦ inr (In-filter ys x i e) | false ↦ In-filter ys x i e ]
+
+  pub filter_none_in : (xs : List T) → ((x : T) → In xs x → p x ≡ false) → filter p xs ≡ []
+  filter_none_in [] f = refl
+  filter_none_in (y ∷ ys) f = rw (f y (inl refl)) (filter_none_in ys (λ x i. f x (inr i)))
+
+  In-filter-cons : (b : Bool) (y : T) (ys : List T) (x : T) → p y ≡ b → In (cond b (y ∷ filter p ys) (filter p ys)) x →
+      (In (filter p ys) x → In ys x × (p x ≡ true)) → In (y ∷ ys) x × (p x ≡ true)
+  In-filter-cons true y ys x e (inl q) f = (inl q, ap p q ∙ e)
+  In-filter-cons true y ys x e (inr i) f = (inr (f i).0, (f i).1)
+  In-filter-cons false y ys x e i f = (inr (f i).0, (f i).1)
+
+  -- what a filter keeps was there and passes
+  pub In-from_filter : (xs : List T) (x : T) → In (filter p xs) x → In xs x × (p x ≡ true)
+  In-from_filter [] x i = absurd i
+  In-from_filter (y ∷ ys) x i = In-filter-cons (p y) y ys x refl i (In-from_filter ys x)
+
+-- a number that is listed and passes makes the test of any true, and the other way round
+pub any_listed : (test : ℕ → Bool) (numbers : List ℕ) (n : ℕ) → IsTrue (has_number numbers n) → IsTrue (test n) →
+    IsTrue (list_any test numbers)
+any_listed test [] n listed passes = absurd (false≢true listed)
+any_listed test (x ∷ numbers) n listed passes = ⊎_elim
+    (λ here. or_left (test x) (list_any test numbers)
+    (let P : ℕ → Type 0 = λ m. IsTrue (test m) in subst P (sym (eqb-true x n here)) passes))
+    (λ later. or_right (test x) (list_any test numbers) (any_listed test numbers n later passes))
+    (or_cases (x == n) (has_number numbers n) listed)
+
+pub listed_any : (test : ℕ → Bool) (numbers : List ℕ) → IsTrue (list_any test numbers) →
+    (n : ℕ) × (IsTrue (has_number numbers n) × IsTrue (test n))
+listed_any test [] any = absurd (false≢true any)
+listed_any test (x ∷ numbers) any = ⊎_elim
+    (λ here. (x, (or_left (x == x) (has_number numbers x) (eq-eqb x x refl), here)))
+    (λ later.
+    let rest = listed_any test numbers later in
+    (rest.0, (or_right (x == rest.0) (has_number numbers rest.0) rest.1.0, rest.1.1)))
+    (or_cases (test x) (list_any test numbers) any)
+
+module _ {T : Type 0} (P : T → Type 0) where
+  -- what holds of all elements holds of each, and the other way round
+  pub All-from_In : (xs : List T) → ((x : T) → In xs x → P x) → All P xs
+  All-from_In [] f = All-nil P
+  All-from_In (y ∷ ys) f = All-cons P y ys (f y (inl refl)) (All-from_In ys (λ x i. f x (inr i)))
+
+  pub All-In : (xs : List T) (x : T) → All P xs → In xs x → P x
+  All-In [] x all i = absurd i
+  All-In (y ∷ ys) x all (inl e) = subst P (sym e) (All-head P y ys all)
+  All-In (y ∷ ys) x all (inr i) = All-In ys x (All-tail P y ys all) i
+
+module _ {T : Type 0} (p q : T → Bool) where
+  -- a stronger test keeps no more
+  pub filter_fewer : (xs : List T) → ((x : T) → In xs x → p x ≡ true → q x ≡ true) →
+      length (filter p xs) ≤ length (filter q xs)
+  filter_fewer [] f = omega arith
+  filter_fewer (y ∷ ys) f =
+      let fewer = filter_fewer ys (λ x i. f x (inr i)) in
+      by_cases (p y)
+      (λ e. rw (e, f y (inl refl) e) (omega (arith, fewer)))
+      (λ e. rw e (elim (q y) as (λ v. length (filter p ys) ≤ length (cond v (y ∷ filter q ys) (filter q ys)))
+      [ true ↦ omega (arith, fewer) | false ↦ fewer ]))
+
+  -- tests that agree at each element answer the same of any
+  pub list_any_agree_in : (xs : List T) → ((x : T) → In xs x → p x ≡ q x) → list_any p xs ≡ list_any q xs
+  list_any_agree_in [] f = refl
+  list_any_agree_in (y ∷ ys) f = rw (f y (inl refl), list_any_agree_in ys (λ x i. f x (inr i))) refl
+
+  -- and keep the same elements
+  pub filter_agree_in : (xs : List T) → ((x : T) → In xs x → p x ≡ q x) → filter p xs ≡ filter q xs
+  filter_agree_in [] f = refl
+  filter_agree_in (y ∷ ys) f = rw (f y (inl refl), filter_agree_in ys (λ x i. f x (inr i))) refl
+
+  -- a filter after a weaker one
+  pub filter-weaker : (xs : List T) → ((x : T) → p x ≡ true → q x ≡ true) → filter p (filter q xs) ≡ filter p xs
+  filter-weaker [] f = refl
+  filter-weaker (y ∷ ys) f =
+      by_cases (p y)
+      (λ e. rw (f y e, e) (ap (λ zs. y ∷ zs) (filter-weaker ys f)))
+      (λ e. rw e (elim (q y) as (λ v. filter p (cond v (y ∷ filter q ys) (filter q ys)) ≡ filter p ys)
+      [ true ↦ rw e (filter-weaker ys f) | false ↦ filter-weaker ys f ]))
+
+module _ {A B : Type 0} (f : A → B) (p : B → Bool) where
+  pub filter-map : (xs : List A) → filter p (map f xs) ≡ map f (filter (λ x. p (f x)) xs)
+  filter-map [] = refl
+  filter-map (x ∷ xs) =
+      elim (p (f x)) as (λ v. cond v (f x ∷ filter p (map f xs)) (filter p (map f xs)) ≡ map f (cond v (x ∷ filter (λ x. p (f x)) xs) (filter (λ x. p (f x)) xs)))
+      [ true ↦ ap (λ ys. f x ∷ ys) (filter-map xs) | false ↦ filter-map xs ]
+
+  pub list_any-map : (xs : List A) → list_any p (map f xs) ≡ list_any (λ x. p (f x)) xs
+  list_any-map [] = refl
+  list_any-map (x ∷ xs) = ap (λ v. p (f x) || v) (list_any-map xs)
+
+module _ {A : Type 0} (p q : A → Bool) where
+  pub filter-filter : (xs : List A) → filter q (filter p xs) ≡ filter (λ x. p x && q x) xs
+  filter-filter [] = refl
+  filter-filter (x ∷ xs) =
+      elim (p x) as (λ v. filter q (cond v (x ∷ filter p xs) (filter p xs)) ≡ cond (v && q x) (x ∷ filter (λ x. p x && q x) xs) (filter (λ x. p x && q x) xs))
+      [ true ↦ rw (filter-filter xs) refl | false ↦ filter-filter xs ]

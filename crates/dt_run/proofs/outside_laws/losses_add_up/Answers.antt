@@ -1,5 +1,0 @@
-use Rattle.dt_run.proofs.OutsideLaws.{losing_none_is_keeping, keeping_is_losing_none, losses_add_up}
-use Rattle.dt_run.proofs.outside_laws.losses_add_up.Goals as goal
-
-pub returns : goal.returns
-returns c = record { none = losing_none_is_keeping; kept = keeping_is_losing_none; sum = losses_add_up }

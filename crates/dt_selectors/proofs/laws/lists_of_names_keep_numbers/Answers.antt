@@ -1,0 +1,5 @@
+use Rattle.dt_selectors.proofs.NameLists.{numbers_stay_along}
+use Rattle.dt_selectors.proofs.laws.lists_of_names_keep_numbers.Goals as goal
+
+pub returns : goal.returns
+returns c = numbers_stay_along
