@@ -3,3 +3,5 @@ pub mod WrittenTexts
 pub mod Malformed
 pub mod NumbersStay
 pub mod HandedOn
+pub mod Tokens
+pub mod LineMade

@@ -15,3 +15,4 @@ pub mod Keyword
 pub mod Numbering
 pub mod Written
 pub mod WrittenLine
+pub mod NumberedLine

@@ -53,8 +53,8 @@ texts_of_classes (Four a b c d) = a.now ∷ b.now ∷ c.now ∷ d.now ∷ []
 -- the words of a line
 abbrev pub tokens_of : Written → List Token
 tokens_of written.Header = Plain (codes "dispatch") ∷ Plain (codes "1") ∷ []
-tokens_of (written.AddClass class None) = Plain (codes "class") ∷ ClassName class.now ∷ []
-tokens_of (written.AddClass class (Some parents)) =
+tokens_of (written.AddClass class) = Plain (codes "class") ∷ ClassName class.now ∷ []
+tokens_of (written.AddSubclass class parents) =
     Plain (codes "class") ∷ ClassName class.now ∷ Plain (codes "<") ∷ map ClassName (parts_at 32 parents.now)
 tokens_of (written.DropClass class) = Plain (codes "drop") ∷ ClassName class.now ∷ []
 tokens_of (written.Link class parent) =
@@ -98,8 +98,8 @@ IsWrittenOf keyword texts None = MayFollow keyword texts → ⊥
 -- the line with the numbers of its names
 abbrev pub line_in : NameBook → Written → Line
 line_in book written.Header = line.Header
-line_in book (written.AddClass class None) = line.AddClass (number_in book.classes class.now) []
-line_in book (written.AddClass class (Some parents)) =
+line_in book (written.AddClass class) = line.AddClass (number_in book.classes class.now) []
+line_in book (written.AddSubclass class parents) =
     line.AddClass (number_in book.classes class.now) (numbers_in book (parts_at 32 parents.now))
 line_in book (written.DropClass class) = line.DropClass (number_in book.classes class.now)
 line_in book (written.Link class parent) =

@@ -5,7 +5,9 @@ mod cut;
 mod keyword;
 mod limits;
 mod line;
+mod line_read;
 mod name_book;
+mod numbered_line;
 mod numbering;
 mod script_fault;
 mod words;
@@ -14,5 +16,6 @@ mod written_line;
 
 pub use limits::SCRIPT_BYTES;
 pub use line::{CallerLine, Line};
+pub use line_read::{LineFault, read_line};
 pub use name_book::NameBook;
 pub use script_fault::ScriptFault;

@@ -28,8 +28,11 @@ pub enum Written<'a> {
     Header,
     AddClass {
         class: &'a [u8],
-        /// The names of the parents, with one space between two.
-        parents: Option<&'a [u8]>,
+    },
+    /// A class with parents: their names, with one space between two.
+    AddSubclass {
+        class: &'a [u8],
+        parents: &'a [u8],
     },
     DropClass {
         class: &'a [u8],
@@ -132,18 +135,12 @@ fn class_line(rest: &[u8]) -> Option<Written<'_>>
 {
     let (class, rest) = cut_word(rest);
     let Some(rest) = rest else {
-        return Some(Written::AddClass {
-            class,
-            parents: None,
-        });
+        return Some(Written::AddClass { class });
     };
     let (less, parents) = cut_word(rest);
     let below = is_word(less, b"<");
     match parents {
-        Some(parents) if below => Some(Written::AddClass {
-            class,
-            parents: Some(parents),
-        }),
+        Some(parents) if below => Some(Written::AddSubclass { class, parents }),
         _ => None,
     }
 }
