@@ -7,13 +7,13 @@ use Rattle.std.proofs.lemmas.Bool.{or_from, eqb-true, eq-eqb, true≢false}
 use Rattle.std.proofs.lemmas.Bool.Decides.{nat_tests}
 use Rattle.std.proofs.lemmas.List.Elements.{All-nil, All-cons, All-head, All-tail}
 use Rattle.dt_graph.specs.Graph.{is_live}
-use Rattle.dt_pages.specs.Reading.{Reading}
+use Rattle.dt_pages.specs.Reading.{Reading, blank}
 use Rattle.dt_definitions.specs.Program.{Program, arity_of}
 use Rattle.dt_scratch.specs.Query.{Query, arity_of_query, is_same_query}
 use Rattle.dt_scratch.specs.Resolve.{cell, cell_of, reply_by_arity, reply_by_classes, first_dead, answer}
 use Rattle.dt_scratch.specs.declared.reply.Answer.{Answer}
 use Rattle.dt_scratch.specs.declared.reply.Answer.TheVariants.{Method, NotUnderstood, Ambiguous}
-use Rattle.dt_scratch.specs.declared.reply.Reply.TheVariants.{WrongArity, NoClass, Answered}
+use Rattle.dt_scratch.specs.declared.reply.Reply.TheVariants.{NoSelector, WrongArity, NoClass, Answered}
 use Rattle.dt_scratch.specs.declared.reply.Change.{Change}
 use Rattle.dt_cells.specs.Regions.{class_numbers, selector_numbers, selector_at, place_of}
 use Rattle.dt_cells.specs.Held.{Held, IsHeld, IsInRange, after, HasArityOf, is_changed}
@@ -21,7 +21,9 @@ use Rattle.dt_cells.specs.HeldLaws.{by_cases, if_true, if_false, same_query, aft
 use Rattle.dt_cells.specs.Kind.{Kind, sets, IsLawful}
 use Rattle.dt_cells.specs.Find.{arity_read, is_class_read, first_unread, head_by}
 use Rattle.dt_cells.specs.Heads.{HasHeads}
-use Rattle.dt_cells.specs.Serving.{Serves, AreTuples, NoStray, IsWithinLimits, TuplesFollow, ShownServes, ServesAfter, NoneIsStrayAfter, RestStays}
+use Rattle.dt_scratch.specs.CellLaws.{UnderstoodCells}
+use Rattle.dt_cells.proofs.Limits.{IsWithinLimits, within_limits}
+use Rattle.dt_cells.specs.Serving.{Serves, AreTuples, NoStray, TuplesFollow, ShownServes, BlankServes, ServesAfter, NoneIsStrayAfter, RestStays}
 
 -- the kind's part answers as the program does, where the selector is live and takes as many arguments
 abbrev pub Answers : ℕ → Kind → Program → Reading → Type 0
@@ -155,10 +157,10 @@ after_cell held new (c ∷ cs) q cells rest = by_cases (is_same_query c.query q)
     ∙ after_cell held new cs q (All-tail (λ change. change.answer ≡ cell new change.query) c cs cells)
     (λ n. rest (rw f n)))
 
-pub tuples_after : TuplesFollow
-tuples_after low high old new held changes limits tuples diff = record {
+pub tuples_after : UnderstoodCells → TuplesFollow
+tuples_after understood low high old new held changes lawful tuples diff = record {
   cells = now;
-  none = λ q h. let a = arities q h in (((limits.understood q).0 (λ e. h (now q a.0 a.1 ∙ e))).arity_fits, a.0, a.1);
+  none = λ q h. let a = arities q h in (((understood new lawful q).0 (λ e. h (now q a.0 a.1 ∙ e))).arity_fits, a.0, a.1);
 }
   where
     now : (q : Query) → low ≤ arity_of_query q → arity_of_query q ≤ high → after held changes q ≡ cell new q
@@ -170,14 +172,21 @@ tuples_after low high old new held changes limits tuples diff = record {
 
 -- ---- the laws of every lawful kind
 
-module _ (k : Kind) (l : IsLawful k) where
+module _ (understood : UnderstoodCells) (k : Kind) (l : IsLawful k) where
   pub shown_serves : ShownServes k
-  shown_serves low p held x some limits tuples sh heads lacking =
-      serves low k p x limits heads (shown_answers k l low p held x tuples sh lacking)
+  shown_serves low p held x some lawful tuples sh heads lacking =
+      serves low k p x (within_limits p lawful) heads (shown_answers k l low p held x tuples sh lacking)
+
+  pub blank_serves : BlankServes k
+  blank_serves low q least most = by_test (nat_lt q.selector selector_numbers)
+    where
+      by_test : (b : Bool) → unwrap_or (head_by (if b && false then Some 0 else None) (arity_of_query q) (first_unread blank 1 q.classes)) (Answered (k.part blank q)) ≡ NoSelector
+      by_test true = refl
+      by_test false = refl
 
   pub serves_after : ServesAfter k
-  serves_after low old new held changes x z y some limits tuples diff sh able pl stay same heads lacking =
-      shown_serves low new (after held changes) y some limits (tuples_after low k.arities old new held changes limits tuples diff)
+  serves_after low old new held changes x z y some lawful tuples diff sh able pl stay same heads lacking =
+      shown_serves low new (after held changes) y some lawful (tuples_after understood low k.arities old new held changes lawful tuples diff)
       (l.shown_elsewhere z y (after held changes) (l.shown_after low x z held changes sh some able pl stay) same) heads lacking
 
   no_cell : (s : ℕ) → s < selector_numbers → k.owns (place_of s) ≡ false

@@ -7,3 +7,4 @@ pub mod Standing
 pub mod Find
 pub mod Heads
 pub mod Serving
+pub mod Examples

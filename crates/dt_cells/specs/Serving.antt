@@ -1,14 +1,13 @@
 -- When an image serves a program.
-use Rattle.std.specs.Prelude.{◌≡◌, ℕ, ◌<◌, ◌≤◌, false, IsTrue, List, Some, All}
+use Rattle.std.specs.Prelude.{◌≡◌, ℕ, ◌<◌, ◌≤◌, false, List, Some, All}
 use Rattle.std.specs.List.{list_any}
-use Rattle.dt_graph.specs.Graph.{is_live}
-use Rattle.dt_pages.specs.Reading.{Reading}
-use Rattle.dt_definitions.specs.Program.{Program, arity_of}
+use Rattle.dt_pages.specs.Reading.{Reading, blank}
+use Rattle.dt_definitions.specs.Lawful.{Lawful}
+use Rattle.dt_definitions.specs.Program.{Program, empty_program, arity_of}
 use Rattle.dt_scratch.specs.Query.{Query, arity_of_query, is_same_query}
 use Rattle.dt_scratch.specs.Resolve.{reply, cell}
-use Rattle.dt_scratch.specs.CellLaws.{UnderstoodCells}
 use Rattle.dt_scratch.specs.declared.reply.Change.{Change}
-use Rattle.dt_cells.specs.Regions.{class_numbers, selector_numbers, place_of}
+use Rattle.dt_cells.specs.Regions.{selector_numbers, place_of}
 use Rattle.dt_cells.specs.Held.{Held, IsHeld, after, IsStageable}
 use Rattle.dt_cells.specs.Kind.{Kind, sets, SameFor, Stay}
 use Rattle.dt_cells.specs.Find.{found}
@@ -39,28 +38,26 @@ pub record AreDifferences (low high : ℕ) (old new : Program) (changes : List C
   pub all : (q : Query) → low ≤ arity_of_query q → arity_of_query q ≤ high
       → list_any (λ change. is_same_query change.query q) changes ≡ false → cell old q ≡ cell new q
 
--- the numbers of what is live in a program are in their ranges, and its cells are those of understood queries
-pub record IsWithinLimits (p : Program) : Type 0 where
-  pub classes : (class : ℕ) → IsTrue (is_live p.graph class) → class < class_numbers
-  pub selectors : (s n : ℕ) → arity_of p s ≡ Some n → (s < selector_numbers) × (0 < n)
-  pub understood : UnderstoodCells p
-
--- What is held after the differences of two programs is the new program's understood tuples.
+-- What is held after the differences of two programs is what the new one, a lawful program, understands.
 abbrev pub TuplesFollow : Type 0
-TuplesFollow = (low high : ℕ) (old new : Program) (held : Held) (changes : List Change) → IsWithinLimits new
+TuplesFollow = (low high : ℕ) (old new : Program) (held : Held) (changes : List Change) → Lawful new
     → AreTuples low high old held → AreDifferences low high old new changes → AreTuples low high new (after held changes)
 
 -- Where a reading shows the understood tuples of a program, has its class words and selector words, and has no stray
 -- place word, it serves the program.
 abbrev pub ShownServes : Kind → Type 0
-ShownServes k = (low : ℕ) (p : Program) (held : Held) (x : Reading) → 1 ≤ low → IsWithinLimits p → AreTuples low k.arities p held
+ShownServes k = (low : ℕ) (p : Program) (held : Held) (x : Reading) → 1 ≤ low → Lawful p → AreTuples low k.arities p held
     → k.shows x held → HasHeads p x → NoStray low k p held x → Serves low k p x
+
+-- The empty image serves the empty program.
+abbrev pub BlankServes : Kind → Type 0
+BlankServes k = (low : ℕ) → Serves low k empty_program blank
 
 -- What the changes make of a reading that shows the old program's tuples, and of every reading that agrees with it
 -- where this kind looks, serves the new program, where it has the new class words and selector words and no live
 -- selector without a place has a place word.
 abbrev pub ServesAfter : Kind → Type 0
-ServesAfter k = (low : ℕ) (old new : Program) (held : Held) (changes : List Change) (x z y : Reading) → 1 ≤ low → IsWithinLimits new
+ServesAfter k = (low : ℕ) (old new : Program) (held : Held) (changes : List Change) (x z y : Reading) → 1 ≤ low → Lawful new
     → AreTuples low k.arities old held → AreDifferences low k.arities old new changes
     → k.shows x held → IsStageable low k.arities held changes → k.places x held changes z → Stay k held changes x z
     → SameFor k (after held changes) z y → HasHeads new y → NoStray low k new (after held changes) y → Serves low k new y

@@ -1,28 +1,26 @@
-ghost use Rattle.dt_cells.specs.Serving.{TuplesFollow, ShownServes, ServesAfter, NoneIsStrayAfter, RestStays, IsWithinLimits};
+ghost use Rattle.dt_cells.specs.Serving.{TuplesFollow, BlankServes, ShownServes, ServesAfter, NoneIsStrayAfter, RestStays};
 
 use crate::kind::TableKind;
-use dt_definitions::Program;
 use dt_scratch::law_of_cells;
 
-/// What holds of every kind of table. Where a reading shows the understood tuples of a program and has its class words
-/// and selector words, look-up over it gives the program's replies; and the changes of a batch, staged over it, make of it
-/// one that gives the new program's. The premise on stray place words is kept from batch to batch.
+/// What holds of every kind of table. The empty image serves the empty program. Where a reading shows the understood
+/// tuples of a lawful program and has its class words and selector words, look-up over it gives the program's replies; and
+/// the changes of a batch, staged over it, make of it one that gives the new program's. The premise on stray place words
+/// is kept from batch to batch. It does nothing: a caller whose reasoning needs this calls it.
 pub fn law_of_kinds<K: TableKind>()
+    ensures blank { BlankServes K.kind }
     ensures shown { ShownServes K.kind }
     ensures after { ServesAfter K.kind }
     ensures strays { NoneIsStrayAfter K.kind }
     ensures rest { RestStays K.kind }
-{}
+{
+    law_of_cells();
+}
 
-/// What is held after the differences of two programs is what the new program understands.
+/// What is held after the differences of two lawful programs is what the new program understands. It does nothing: a
+/// caller whose reasoning needs this calls it.
 pub fn tuples_follow()
     ensures { TuplesFollow }
-{}
-
-/// The numbers in a program are in their ranges, and its cells are those of the understood queries.
-pub fn law_of_limits(program: &Program)
-    ensures { IsWithinLimits program.now }
 {
-    program.law();
-    law_of_cells(program);
+    law_of_cells();
 }

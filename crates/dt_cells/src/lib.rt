@@ -12,5 +12,5 @@ mod regions;
 pub use cell::{answer_by_word, word_of_answer};
 pub use head_words::heads;
 pub use kind::TableKind;
-pub use laws::{law_of_kinds, law_of_limits, tuples_follow};
+pub use laws::{law_of_kinds, tuples_follow};
 pub use regions::{place_address, selector_address};

@@ -1,3 +1,4 @@
 pub mod Sti
 pub mod StiLaws
 pub mod StiStanding
+pub mod Examples
