@@ -27,8 +27,9 @@ impl ClassGraph {
         classes.iter().copied().find(|class| !self.is_live(*class))
     }
 
-    /// Why a class with these parents isn't added.
-    pub(crate) fn add_cause(&self, class: ClassNo, parents: &[ClassNo]) -> Option<GraphFault>
+    /// Why [`add`](ClassGraph::add) would refuse the class with these parents; `None` exactly where it wouldn't. It costs
+    /// what the refusal costs: a step for each parent, and for each two of them.
+    pub fn add_cause(&self, class: ClassNo, parents: &[ClassNo]) -> Option<GraphFault>
         ensures { result ≡ add_cause self.now class parents.now }
     {
         if self.is_live(class) {
@@ -60,8 +61,9 @@ impl ClassGraph {
         None
     }
 
-    /// Why a link from the class to the parent isn't made.
-    pub(crate) fn link_cause(&self, class: ClassNo, parent: ClassNo) -> Option<GraphFault>
+    /// Why [`link`](ClassGraph::link) would refuse the link; `None` exactly where it wouldn't. It costs a step for each
+    /// parent of the class.
+    pub fn link_cause(&self, class: ClassNo, parent: ClassNo) -> Option<GraphFault>
         ensures { result ≡ link_cause self.now class parent }
     {
         if !self.is_live(class) {
@@ -82,8 +84,9 @@ impl ClassGraph {
         None
     }
 
-    /// Why the link from the class to the parent isn't taken away.
-    pub(crate) fn unlink_cause(&self, class: ClassNo, parent: ClassNo) -> Option<GraphFault>
+    /// Why [`unlink`](ClassGraph::unlink) would refuse to take the link away; `None` exactly where it wouldn't. It costs a
+    /// step for each parent of the class.
+    pub fn unlink_cause(&self, class: ClassNo, parent: ClassNo) -> Option<GraphFault>
         ensures { result ≡ unlink_cause self.now class parent }
     {
         if !self.is_live(class) {
