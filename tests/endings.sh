@@ -19,6 +19,8 @@ if [ -z "$program" ]; then
     ./dispatch run --table sti <"$folder/empty" >/dev/null
     program=crates/dispatch_cli/out/dispatch_cli
 fi
+# A wrong program that copies what it reads fills no disk.
+ulimit -f 20480
 passed=0
 failed=0
 
