@@ -2,7 +2,7 @@
 use Rattle.std.proofs.Common.{◌≡◌, ℕ, ◌+◌, ◌<◌, List, [], ◌∷◌, ◌++◌, length, drop, get_or, reverse, Ok, Result, sym, ap, ◌∙◌, arith}
 use Rattle.std.proofs.lemmas.List.{reverse-append, drop_more}
 use Rattle.dt_definitions.specs.Program.{Program}
-use Rattle.dt_definitions.specs.DefinitionRows.{Rooms, RoomStays}
+use Rattle.dt_definitions.specs.SelectorLists.{Rooms, RoomStays}
 use Rattle.dt_definitions.specs.Step.{step, step_from, and_then, Refused}
 use Rattle.dt_definitions.specs.Undo.{restored, HasRoom, HasRooms}
 use Rattle.dt_definitions.specs.declared.edit.Edit.{Edit}

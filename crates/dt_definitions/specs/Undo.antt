@@ -5,7 +5,7 @@ use Rattle.dt_graph.specs.Parents.{parents_of}
 use Rattle.dt_graph.specs.Restore.{restore_effect}
 use Rattle.dt_selectors.specs.Selectors.{Selector, place_selector, without_selector}
 use Rattle.dt_definitions.specs.Program.{Definition, Program, arity_of, is_definition, place_definition, body_of}
-use Rattle.dt_definitions.specs.DefinitionRows.{Rooms, Definitions, HasRoomFor}
+use Rattle.dt_definitions.specs.SelectorLists.{Rooms, Definitions, HasRoomFor}
 use Rattle.dt_definitions.specs.Lawful.{Lawful}
 use Rattle.dt_definitions.specs.Step.{with_graph, with_selectors, with_definitions}
 use Rattle.dt_definitions.specs.declared.edit.Edit.{Edit}

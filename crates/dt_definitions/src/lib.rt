@@ -1,13 +1,14 @@
 //! Programs of classes, selectors and definitions, and the edits that change them.
 #![tactic(auto)]
 
+mod all_definitions;
 mod answer_law;
 mod apply_batch;
 mod batch;
 mod causes;
+mod class_order;
 mod defined;
 mod definition_key;
-mod definition_table;
 mod edit;
 mod kept;
 mod law;
@@ -19,7 +20,7 @@ mod parents;
 mod parts;
 mod program;
 mod refusal;
-mod row;
+mod selector_definitions;
 mod sharing;
 mod tuple;
 mod two_programs;

@@ -4,8 +4,8 @@ ghost use Rattle.dt_definitions.specs.Program.{is_key_before, is_same_key};
 ghost use Rattle.dt_definitions.specs.Search.{first_place};
 ghost use Rattle.dt_definitions.specs.Naming.{itself, place_key, without_key, KeysAscend, KeySearched};
 
+use crate::class_order::{is_before, is_same};
 use crate::definition_key::DefinitionKey;
-use crate::row::{is_before, is_same};
 use dt_graph::{ClassNo, NoMemory};
 use dt_selectors::SelNo;
 use std::alloc::Global;

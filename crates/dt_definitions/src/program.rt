@@ -6,16 +6,16 @@ ghost use Rattle.dt_graph.specs.declared.limits.TheConstants.{CLASSES};
 ghost use Rattle.dt_definitions.specs.Program.{empty_program, arity_of, definitions_of, is_definition, body_of};
 ghost use Rattle.dt_definitions.specs.Naming.{naming};
 ghost use Rattle.dt_definitions.specs.Lawful.{Lawful};
-ghost use Rattle.dt_definitions.specs.DefinitionRows.{with_selector};
-ghost use Rattle.dt_definitions.specs.Place.{at_place};
+ghost use Rattle.dt_definitions.specs.SelectorLists.{with_selector};
+ghost use Rattle.dt_definitions.specs.Nth.{nth};
 ghost use Rattle.dt_definitions.specs.Step.{Applies, step_batch, AppliesBatch};
 ghost use Rattle.dt_definitions.specs.Undo.{LeadsBack, StaysLawful, undone};
 ghost use Rattle.dt_definitions.specs.Memory.{may_want_memory, batch_may_want_memory, NoMemoryOnlyWhere, BatchNoMemoryOnlyWhere};
 
+use crate::all_definitions::AllDefinitions;
 use crate::batch::Batch;
 use crate::defined::Defined;
 use crate::definition_key::DefinitionKey;
-use crate::definition_table::DefinitionTable;
 use crate::edit::Edit;
 use crate::kept::Kept;
 use crate::law::steps_keep_law;
@@ -55,7 +55,7 @@ impl Program {
         let parts = Parts {
             graph: ClassGraph::new(alloc)?,
             selectors: Selectors::new(alloc)?,
-            definitions: DefinitionTable::new(alloc)?,
+            definitions: AllDefinitions::new(alloc)?,
         };
         Ok(Program { parts })
     }
@@ -137,7 +137,7 @@ impl Program {
     /// The definition at this place, from 1, among those of the selector; `None` exactly where there is no such place.
     pub fn of_selector(&self, selector: SelNo, place: u32) -> Option<(&Tuple, BodyNo)>
         ensures { option_map (λ found. record { selector = selector; classes = found.0.now; body = found.1 }) result
-            ≡ at_place (definitions_of self.now selector) place }
+            ≡ nth (definitions_of self.now selector) place }
     {
         let place = place.checked_sub(1)?;
         let defined = self.definitions_of(selector).get(place as usize)?;
