@@ -77,7 +77,16 @@ fn remove_from(rows: &mut Vec<SelectorDefinitions>, selector: SelNo, classes: &[
     rows[selector.number() as usize].remove(classes)
 }
 
-/// Equal rows.
+/// Gives back what the list of the selector doesn't use.
+fn give_back_in(rows: &mut Vec<SelectorDefinitions>, selector: SelNo)
+    requires { length rows.old.items ≡ SELECTORS }
+    ensures all_selectors { length rows.new.items ≡ SELECTORS }
+    ensures stay { definitions_from 0 rows.new.items ≡ definitions_from 0 rows.old.items }
+{
+    rows[selector.number() as usize].give_back();
+}
+
+/// Equal lists.
 fn copy_lists(rows: &Vec<SelectorDefinitions>) -> Result<Vec<SelectorDefinitions>, NoMemory>
     ensures { IfOk result (λ copy. HaveSameDefinitions rows.now.items copy.items) }
 {
@@ -217,7 +226,15 @@ impl AllDefinitions {
         }
     }
 
-    /// An equal table.
+    /// Gives back what the lists of the selector and of these classes don't use.
+    pub(crate) fn give_back(&mut self, selector: SelNo, classes: &[ClassNo])
+        ensures { self.new.all ≡ self.old.all }
+    {
+        give_back_in(&mut self.rows, selector);
+        self.index.give_back(classes);
+    }
+
+    /// Equal definitions.
     pub(crate) fn copy(&self) -> Result<AllDefinitions, NoMemory>
         ensures { IfOk result (λ table. table.all ≡ self.now.all) }
     {

@@ -135,6 +135,16 @@ impl Naming {
         }
     }
 
+    /// Gives memory back where less than a quarter of the room is used.
+    pub(crate) fn give_back(&mut self)
+        ensures { self.new.keys ≡ self.old.keys }
+    {
+        let used = self.keys.len();
+        if used < self.keys.capacity() / 4 {
+            self.keys.shrink_to(used * 2);
+        }
+    }
+
     /// Equal keys.
     pub(crate) fn copy(&self) -> Result<Naming, NoMemory>
         ensures { IfOk result (λ naming. naming.keys ≡ self.now.keys) }

@@ -88,6 +88,17 @@ fn remove_in(lists: &mut Vec<Naming>, selector: SelNo, classes: &[ClassNo])
     }
 }
 
+/// Gives back what the lists of these classes don't use.
+fn give_back_in(lists: &mut Vec<Naming>, classes: &[ClassNo])
+    requires { length lists.old.items ≡ CLASSES }
+    ensures all_classes { length lists.new.items ≡ CLASSES }
+    ensures keys { KeysStay lists.old.items lists.new.items }
+{
+    for class in classes {
+        lists[class.number() as usize].give_back();
+    }
+}
+
 /// Equal lists.
 fn copy_lists(lists: &Vec<Naming>) -> Result<Vec<Naming>, NoMemory>
     ensures same { IfOk result (λ copy. KeysStay lists.now.items copy.items) }
@@ -147,6 +158,13 @@ impl NamingIndex {
         ensures room_left { HasRoomAgain (record { selector = selector; classes = classes.now }) self.old self.new classes.now }
     {
         remove_in(&mut self.lists, selector, classes);
+    }
+
+    /// Gives back what the lists of these classes don't use.
+    pub(crate) fn give_back(&mut self, classes: &[ClassNo])
+        ensures { KeysStay self.old self.new }
+    {
+        give_back_in(&mut self.lists, classes);
     }
 
     /// An equal index.

@@ -127,7 +127,17 @@ impl SelectorDefinitions {
         }
     }
 
-    /// An equal row.
+    /// Gives memory back where less than a quarter of the room is used.
+    pub(crate) fn give_back(&mut self)
+        ensures { self.new.defined ≡ self.old.defined }
+    {
+        let used = self.defined.len();
+        if used < self.defined.capacity() / 4 {
+            self.defined.shrink_to(used * 2);
+        }
+    }
+
+    /// An equal list.
     pub(crate) fn copy(&self) -> Result<SelectorDefinitions, NoMemory>
         ensures { IfOk result (λ row. row.defined ≡ self.now.defined) }
     {
