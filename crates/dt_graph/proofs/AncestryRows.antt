@@ -4,7 +4,7 @@ use Rattle.std.proofs.lemmas.Bool.{cases_eq, cases_lt, cond-true, cond-false, an
 use Rattle.std.proofs.lemmas.List.{get_or_default, get_or-set_same, get_or-set_other, length-set}
 use Rattle.dt_graph.specs.Graph.{has_number}
 use Rattle.dt_graph.specs.Lawful.{AscendingNumbers}
-use Rattle.dt_graph.specs.ClassSet.{first_from}
+use Rattle.dt_graph.specs.FirstFrom.{first_from}
 use Rattle.dt_graph.specs.Ancestry.{row_has}
 use Rattle.dt_graph.proofs.AscendingSets.{IsFirstFrom, first_some, first_none, and_true}
 
@@ -75,6 +75,9 @@ with_all classes bit n = bit || has_number classes n
 
 abbrev pub without_one : ℕ → Bool → ℕ → Bool
 without_one class bit n = bit && not (n == class)
+
+abbrev pub without_all : List ℕ → Bool → ℕ → Bool
+without_all classes bit n = bit && not (has_number classes n)
 
 pub with_all_said : (place bit new : Bool) → cond place (bit || new) bit ≡ (bit || (place && new))
 with_all_said true bit new = refl

@@ -1,10 +1,11 @@
 -- Ascending lists as sets: lists with the same numbers are equal, and the first number from a bound on.
 use Rattle.std.proofs.Common.{◌≡◌, ◌==◌, ℕ, ◌+◌, ◌<◌, ◌≤◌, Bool, true, false, ◌&&◌, ◌||◌, IsTrue, nat_le, List, [], ◌∷◌, ◌++◌, None, Some, All, filter, refl, sym, ap, ◌∙◌, ⊎_elim, arith, eq-eqb, ne_eqb, eqb-true, ltb-true, inl, inr, append_assoc, append-nil}
-use Rattle.std.proofs.lemmas.Bool.{or_cases, or_left, or_right, or_parts, or_from, cases_Bool, cases_eq, cases_order, cond-true, cond-false, false≢true, true≢false, le-leb, lt-leb, leb-true, leb-false}
+use Rattle.std.proofs.lemmas.Bool.{or_cases, or_left, or_right, or_parts, or_from, cases_Bool, cases_eq, cases_order, cond-true, cond-false, false≢true, true≢false, false_from_ne_true, le-leb, lt-leb, leb-true, leb-false}
 use Rattle.std.proofs.lemmas.List.Elements.{All-head, All-tail}
 use Rattle.dt_graph.specs.Graph.{has_number}
 use Rattle.dt_graph.specs.Lawful.{AscendingNumbers}
-use Rattle.dt_graph.specs.ClassSet.{first_from}
+use Rattle.dt_graph.specs.FirstFrom.{first_from}
+use Rattle.dt_graph.proofs.Ascending.{first_is_lowest}
 
 -- two truth values that follow from each other are equal
 pub same_truth : (a b : Bool) → (IsTrue a → IsTrue b) → (IsTrue b → IsTrue a) → a ≡ b
@@ -27,17 +28,14 @@ pub ascending_tail : (a : ℕ) (numbers : List ℕ) → AscendingNumbers (a ∷ 
 ascending_tail a [] ascending = tt
 ascending_tail a (b ∷ numbers) ascending = ascending.1
 
--- no number of an ascending list is below its first
-none_below : (a : ℕ) (numbers : List ℕ) (n : ℕ) → AscendingNumbers (a ∷ numbers) → n < a → has_number (a ∷ numbers) n ≡ false
-none_below a [] n ascending less = or_from (a == n) false (ne_eqb a n (λ e. omega arith)) refl
-none_below a (b ∷ numbers) n ascending less =
-    or_from (a == n) (has_number (b ∷ numbers) n) (ne_eqb a n (λ e. omega arith))
-    (none_below b numbers n ascending.1 (omega (arith, ltb-true a b ascending.0)))
-
--- nor is one that comes later as low as the first
+-- no number that comes later is as low as the first of an ascending list, and none is below the first
 pub none_again : (a : ℕ) (numbers : List ℕ) (n : ℕ) → AscendingNumbers (a ∷ numbers) → n ≤ a → has_number numbers n ≡ false
-none_again a [] n ascending less = refl
-none_again a (b ∷ numbers) n ascending less = none_below b numbers n ascending.1 (omega (arith, ltb-true a b ascending.0))
+none_again a numbers n ascending less =
+    false_from_ne_true (has_number numbers n) (λ listed. let more = first_is_lowest a numbers ascending n listed in omega arith)
+
+none_below : (a : ℕ) (numbers : List ℕ) (n : ℕ) → AscendingNumbers (a ∷ numbers) → n < a → has_number (a ∷ numbers) n ≡ false
+none_below a numbers n ascending less =
+    or_from (a == n) (has_number numbers n) (ne_eqb a n (λ e. omega arith)) (none_again a numbers n ascending (omega arith))
 
 abbrev SameNumbers : List ℕ → List ℕ → Type 0
 SameNumbers first second = (n : ℕ) → has_number first n ≡ has_number second n

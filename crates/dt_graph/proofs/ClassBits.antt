@@ -17,19 +17,19 @@ use Rattle.dt_graph.proofs.LinkLists.{has_number-filter, has_number-kept, has_nu
 use Rattle.dt_graph.proofs.Ascending.{AscendingNumbers-filter, AscendingNumbers-placed}
 use Rattle.dt_graph.proofs.AscendingSets.{same_truth, and_true, same_numbers, nothing_listed}
 
-AscendingNumbers-range : (a n : ℕ) → AscendingNumbers (range_with_len a n)
+pub AscendingNumbers-range : (a n : ℕ) → AscendingNumbers (range_with_len a n)
 AscendingNumbers-range a zero = tt
 AscendingNumbers-range a (suc zero) = tt
 AscendingNumbers-range a (suc (suc n)) = (lt-ltb a (a + 1) (omega arith), AscendingNumbers-range (a + 1) (suc n))
 
-has_number-range : (a n x : ℕ) → a ≤ x → x < a + n → IsTrue (has_number (range_with_len a n) x)
+pub has_number-range : (a n x : ℕ) → a ≤ x → x < a + n → IsTrue (has_number (range_with_len a n) x)
 has_number-range a zero x low high = absurd (omega arith)
 has_number-range a (suc n) x low high = ⊎_elim
     (λ here. or_left (a == x) (has_number (range_with_len (a + 1) n) x) (eq-eqb a x here))
     (λ later. or_right (a == x) (has_number (range_with_len (a + 1) n) x) (has_number-range (a + 1) n x (omega arith) (omega arith)))
     (cases_eq a x)
 
-has_number-range_below : (a n x : ℕ) → IsTrue (has_number (range_with_len a n) x) → x < a + n
+pub has_number-range_below : (a n x : ℕ) → IsTrue (has_number (range_with_len a n) x) → x < a + n
 has_number-range_below a zero x listed = absurd (false≢true listed)
 has_number-range_below a (suc n) x listed = ⊎_elim
     (λ here. let e = eqb-true a x here in omega arith)

@@ -22,6 +22,41 @@ above_is_live : (g : Graph) → JoinsLive g → (steps : List ℕ) (a b : ℕ) �
 above_is_live g joins [] a b live leads = let P : ℕ → Type 0 = λ n. IsTrue (is_live g n) in subst P leads live
 above_is_live g joins (s ∷ steps) a b live leads = above_is_live g joins steps s b (joins a s leads.0).1 leads.1
 
+-- what is below a class in range is in range, and so is what it is below
+low_in_range : (g : Graph) → LawfulGraph g → (low class : ℕ) → class < CLASSES → IsTrue (is_below g.links low class) → low < CLASSES
+low_in_range g lawful low class inside test = let way = IsBelow-from_test g.links low class test in go way.0 way.1
+  where
+    go : (steps : List ℕ) → Leads g.links low steps class → low < CLASSES
+    go [] leads = subst (λ n. n < CLASSES) (sym leads) inside
+    go (s ∷ steps) leads = each_number (λ n. n < CLASSES) g.classes lawful.classes_in_range low (joins_live g lawful low s leads.0).0
+
+high_in_range : (g : Graph) → LawfulGraph g → (class high : ℕ) → class < CLASSES → IsTrue (is_below g.links class high) → high < CLASSES
+high_in_range g lawful class high inside test = let way = IsBelow-from_test g.links class high test in go way.0 class inside way.1
+  where
+    go : (steps : List ℕ) (from : ℕ) → from < CLASSES → Leads g.links from steps high → high < CLASSES
+    go [] from inside leads = subst (λ n. n < CLASSES) leads inside
+    go (s ∷ steps) from inside leads =
+        go steps s (each_number (λ n. n < CLASSES) g.classes lawful.classes_in_range s (joins_live g lawful from s leads.0).1) leads.1
+
+-- so a set that agrees with a test on all classes agrees with it on all numbers
+agrees_everywhere : (numbers : List ℕ) (test : ℕ → Bool) → All (λ n. n < CLASSES) numbers → ((n : ℕ) → IsTrue (test n) → n < CLASSES) → ((n : ℕ) → n < CLASSES → has_number numbers n ≡ test n) → (n : ℕ) → has_number numbers n ≡ test n
+agrees_everywhere numbers test in_range test_in_range shown n = same_truth (has_number numbers n) (test n)
+    (λ listed. sym (shown n (each_number (λ m. m < CLASSES) numbers in_range n listed)) ∙ listed)
+    (λ holds. shown n (test_in_range n holds) ∙ holds)
+
+pub below_everywhere : (g : Graph) (class : ℕ) (numbers : List ℕ) → LawfulGraph g → class < CLASSES → All (λ n. n < CLASSES) numbers → ((low : ℕ) → low < CLASSES → has_number numbers low ≡ is_below g.links low class) → (low : ℕ) → has_number numbers low ≡ is_below g.links low class
+below_everywhere g class numbers lawful inside in_range shown =
+    agrees_everywhere numbers (λ low. is_below g.links low class) in_range (λ low test. low_in_range g lawful low class inside test) shown
+
+pub above_everywhere : (g : Graph) (class : ℕ) (numbers : List ℕ) → LawfulGraph g → class < CLASSES → All (λ n. n < CLASSES) numbers → ((high : ℕ) → high < CLASSES → has_number numbers high ≡ is_below g.links class high) → (high : ℕ) → has_number numbers high ≡ is_below g.links class high
+above_everywhere g class numbers lawful inside in_range shown =
+    agrees_everywhere numbers (λ high. is_below g.links class high) in_range (λ high test. high_in_range g lawful class high inside test) shown
+
+-- what a live class is below is live
+pub above_live : (g : Graph) → LawfulGraph g → (class high : ℕ) → IsTrue (is_live g class) → IsTrue (is_below g.links class high) → IsTrue (is_live g high)
+above_live g lawful class high live test =
+    let way = IsBelow-from_test g.links class high test in above_is_live g (joins_live g lawful) way.0 class high live way.1
+
 -- the classes at or below a live class are its descendants
 pub descendants_shown : (g : Graph) (class : ℕ) (numbers : List ℕ) → LawfulGraph g → IsTrue (is_live g class) → AscendingNumbers numbers → All (λ n. n < CLASSES) numbers → ((low : ℕ) → low < CLASSES → has_number numbers low ≡ is_below g.links low class) → numbers ≡ descendants g class
 descendants_shown g class numbers lawful live ascending in_range shown =

@@ -1,5 +1,5 @@
 -- Lists in strict order stay so where an element is placed and where some are left out; and a change is undone.
-use Rattle.std.proofs.Common.{◌≡◌, Bool, true, false, not, cond, IsTrue, List, [], ◌∷◌, None, Some, Option, All, filter, find, refl, sym, ap, subst, ◌∙◌, arith}
+use Rattle.std.proofs.Common.{◌≡◌, Bool, true, false, cond, IsTrue, List, [], ◌∷◌, None, Some, All, filter, refl, sym, ap, subst, ◌∙◌}
 use Rattle.std.proofs.lemmas.Bool.{cond_both, false≢true}
 use Rattle.std.proofs.lemmas.List.Elements.{All-nil, All-cons, All-head, All-tail, All-weaker, All-filter}
 use Rattle.dt_graph.specs.InOrder.{StrictOrder, Ascends, place, find_at, without, restore}
@@ -79,7 +79,7 @@ module _ {X K : Type 0} (key : X → K) (before same : K → K → Bool) (order 
         | false ↦ λ s. rw s (ap (λ ys. x ∷ ys) (without_none k xs (rw s at h)))
       ] refl
 
-  place_first : (d : X) (xs : List X) → BeforeAll (key d) xs → place key before same d xs ≡ d ∷ xs
+  pub place_first : (d : X) (xs : List X) → BeforeAll (key d) xs → place key before same d xs ≡ d ∷ xs
   place_first d [] all = refl
   place_first d (x ∷ xs) all = rw (All-head (λ y. IsTrue (before (key d) (key y))) x xs all) refl
 
@@ -127,7 +127,7 @@ module _ {X K : Type 0} (key : X → K) (before same : K → K → Bool) (order 
       → before k (key x) ≡ true → ⊥
   not_before k x xs old u h b =
       let rest = All-weaker (λ y. IsTrue (before (key x) (key y))) (λ y. IsTrue (before k (key y)))
-          (λ y l. order.transitive k (key x) (key y) b l) xs (first_before_all x xs u) in
+      (λ y l. order.transitive k (key x) (key y) b l) xs (first_before_all x xs u) in
       let none = none_found k (x ∷ xs) (All-cons (λ y. IsTrue (before k (key y))) x xs b rest) in
       absurd cc
 

@@ -1,4 +1,5 @@
 pub mod InOrder
+pub mod SameLists
 pub mod Walks
 pub mod ParentLists
 pub mod Rows
@@ -16,6 +17,7 @@ pub mod Members
 pub mod DescendantLists
 pub mod AscendingSets
 pub mod ClassBits
+pub mod LiveLists
 pub mod Renewing
 pub mod FirstClass
 pub mod AncestryRows

@@ -1,16 +1,15 @@
 -- What the lists made from a graph tell of it, and in which order: parents, and the lowest subclass.
 use Rattle.std.proofs.Common.{◌≡◌, ◌==◌, ℕ, ◌≤◌, true, false, cond, ◌&&◌, IsTrue, List, [], ◌∷◌, Option, None, Some, refl, sym, subst, eqb-true, nat_lt, arith, All}
 use Rattle.std.proofs.lemmas.Bool.Decides.{nat_tests}
-use Rattle.std.proofs.lemmas.List.Elements.{All-nil, All-cons}
-use Rattle.dt_graph.specs.Graph.{Link, Graph, has_number, is_live, has_link, AscendingLinks}
+use Rattle.std.proofs.lemmas.List.Elements.{All-nil, All-cons, All-head, All-tail}
+use Rattle.dt_graph.specs.Graph.{Link, Graph, has_number, is_live, has_link, is_link_before, AscendingLinks}
 use Rattle.dt_graph.specs.Parents.{parents_of}
 use Rattle.dt_graph.specs.Below.{is_below}
 use Rattle.dt_graph.specs.Descendants.{descendants}
 use Rattle.dt_graph.specs.Lawful.{AscendingNumbers}
 use Rattle.dt_graph.specs.GraphChange.{lowest_subclass}
 use Rattle.dt_graph.proofs.ParentLists.{has_link_listed}
-use Rattle.dt_graph.proofs.Ascending.{AscendingNumbers-cons, AscendingNumbers-filter}
-use Rattle.dt_graph.proofs.Restored.{LinkBelowAll, link_below_rest, links_tail}
+use Rattle.dt_graph.proofs.Ascending.{AscendingNumbers-cons, AscendingNumbers-filter, LinkBelowAll, link_below_rest, links_tail}
 use Rattle.dt_graph.proofs.Subclasses.{IsLowest, lowest_linked}
 use Rattle.dt_graph.proofs.Effects.{has_number-filtered}
 
@@ -23,11 +22,11 @@ parents_listed links class parent = sym (has_link_listed links class parent)
 parents_above : (l : Link) (class : ℕ) (links : List Link) → l.class ≡ class → LinkBelowAll l links → All (λ p. IsTrue (nat_lt l.parent p)) (parents_of links class)
 parents_above l class [] own after = All-nil (λ p. IsTrue (nat_lt l.parent p))
 parents_above l class (m ∷ links) own after =
-    let rest = parents_above l class links own after.1 in
+    let rest = parents_above l class links own (All-tail (λ k. IsTrue (is_link_before l k)) m links after) in
     elim (m.class == class) as (λ t. (m.class == class) ≡ t → All (λ p. IsTrue (nat_lt l.parent p)) (cond t (m.parent ∷ parents_of links class) (parents_of links class))) [
       | true ↦ λ e.
           let same = eqb-true m.class class e in
-          let before = after.0 in
+          let before = All-head (λ k. IsTrue (is_link_before l k)) m links after in
           All-cons (λ p. IsTrue (nat_lt l.parent p)) m.parent (parents_of links class) (grind (arith, nat_tests)) rest
       | false ↦ λ e. rest
     ] refl

@@ -3,16 +3,12 @@ use Rattle.std.proofs.Common.{◌≡◌, ◌==◌, ◌≢◌, ℕ, ◌<◌, ◌�
 use Rattle.std.proofs.lemmas.Bool.{or_cases, or_left, or_right, false≢true, false_from_ne_true, cases_eq}
 use Rattle.dt_graph.specs.Graph.{has_number}
 use Rattle.dt_graph.specs.Lawful.{AscendingNumbers}
-use Rattle.dt_graph.proofs.Restored.{below_rest, member_above}
+use Rattle.dt_graph.proofs.Ascending.{first_is_lowest}
 use Rattle.dt_graph.proofs.AscendingSets.{ascending_tail}
 
 -- what stands in the first list stands in the second
 abbrev pub NumbersIn : List ℕ → List ℕ → Type 0
 NumbersIn numbers more = (n : ℕ) → IsTrue (has_number numbers n) → IsTrue (has_number more n)
-
--- a number that comes first is below all others
-pub first_is_lowest : (x : ℕ) (numbers : List ℕ) → AscendingNumbers (x ∷ numbers) → (n : ℕ) → IsTrue (has_number numbers n) → x < n
-first_is_lowest x numbers ascending n listed = member_above x n numbers (below_rest x numbers ascending) listed
 
 pub has_first : (x : ℕ) (numbers : List ℕ) → IsTrue (has_number (x ∷ numbers) x)
 has_first x numbers = or_left (x == x) (has_number numbers x) (eq-eqb x x refl)

@@ -1,7 +1,9 @@
 -- A class as it was before a change of it: what the rows stand for, and that this undoes the change.
-use Rattle.std.proofs.Common.{◌≡◌, ℕ, ◌<◌, Bool, true, false, cond, not, IsTrue, List, [], ◌∷◌, length, get_or, set, filter, eqb, refl, sym, ap, subst, ◌∙◌, arith, length-set, set-set, get_or-set_same}
-use Rattle.std.proofs.lemmas.Bool.{ltb-true, eqb-true, eq-eqb, lt-ltb}
+use Rattle.std.proofs.Common.{◌≡◌, ℕ, ◌<◌, Bool, true, false, cond, not, IsTrue, List, [], ◌∷◌, length, get_or, set, filter, eqb, nat_lt, Some, refl, sym, ap, subst, ◌∙◌, arith, length-set, set-set, get_or-set_same}
+use Rattle.std.proofs.lemmas.Bool.{eqb-true, eq-eqb}
 use Rattle.std.proofs.lemmas.Bool.Decides.{nat_tests}
+use Rattle.std.proofs.lemmas.List.Elements.{All-head, All-tail, All-filter}
+use Rattle.dt_graph.specs.InOrder.{find_at, without}
 use Rattle.dt_graph.specs.Graph.{Link, Graph, has_number, is_live, is_link, is_link_before, AscendingLinks, place_number, place_link, place_links}
 use Rattle.dt_graph.specs.GraphRows.{graph_of, place_numbers, LawfulRows}
 use Rattle.dt_graph.specs.Lawful.{AscendingNumbers, LawfulGraph}
@@ -12,8 +14,8 @@ use Rattle.dt_graph.specs.declared.class_rows.Row.{Row}
 use Rattle.dt_graph.proofs.RowChanges.{live_from-placed, links_from-filled}
 use Rattle.dt_graph.proofs.GraphChanges.{IsRowOf, dropped}
 use Rattle.dt_graph.proofs.LawfulChanges.{joins_live, no_parents}
-use Rattle.dt_graph.proofs.Ascending.{link_order}
-use Rattle.dt_graph.proofs.AscendingSets.{ascending_tail}
+use Rattle.dt_graph.proofs.InOrder.{place_first, put_back_removed}
+use Rattle.dt_graph.proofs.Ascending.{number_order, order_of_links, LinkBelowAll, link_below_rest, links_tail}
 
 -- ---- what the rows stand for
 
@@ -82,70 +84,23 @@ restore_touches g class false parents = drop_touches g class
 
 -- ---- and the class comes back
 
--- the number is below each of the list
-abbrev BelowAll : ℕ → List ℕ → Type 0
-BelowAll n [] = Unit {0}
-BelowAll n (m ∷ numbers) = (n < m) × BelowAll n numbers
+others_said : (class : ℕ) (numbers : List ℕ) → filter (λ c. not (eqb c class)) numbers ≡ without (λ n. n) (λ a b. eqb a b) class numbers
+others_said class [] = refl
+others_said class (n ∷ numbers) = let r = others_said class numbers in grind (arith, nat_tests)
 
-below_less : (m n : ℕ) (numbers : List ℕ) → m < n → BelowAll n numbers → BelowAll m numbers
-below_less m n [] l h = tt
-below_less m n (k ∷ numbers) l h = (omega (arith, h.0), below_less m n numbers l h.1)
-
-pub below_rest : (n : ℕ) (numbers : List ℕ) → AscendingNumbers (n ∷ numbers) → BelowAll n numbers
-below_rest n [] h = tt
-below_rest n (m ∷ numbers) h =
-    let l = ltb-true n m h.0 in (l, below_less n m numbers l (below_rest m numbers h.1))
-
-absent_below : (n : ℕ) (numbers : List ℕ) → BelowAll n numbers → filter (λ c. not (eqb c n)) numbers ≡ numbers
-absent_below n [] h = refl
-absent_below n (m ∷ numbers) h =
-    let r = absent_below n numbers h.1 in let l = h.0 in grind (arith, nat_tests)
-
-place_below : (n : ℕ) (numbers : List ℕ) → BelowAll n numbers → place_number n numbers ≡ n ∷ numbers
-place_below n [] h = refl
-place_below n (m ∷ numbers) h = rw (lt-ltb n m h.0) refl
-
-pub member_above : (n k : ℕ) (numbers : List ℕ) → BelowAll n numbers → IsTrue (has_number numbers k) → n < k
-member_above n k [] h m = cc
-member_above n k (x ∷ numbers) h m = let r = member_above n k numbers h.1 in let l = h.0 in grind (arith, nat_tests)
+found_itself : (class : ℕ) (numbers : List ℕ) → IsTrue (has_number numbers class) → find_at (λ n. n) (λ a b. eqb a b) class numbers ≡ Some class
+found_itself class [] h = cc
+found_itself class (n ∷ numbers) h = let r = found_itself class numbers in grind (arith, nat_tests)
 
 number_back : (class : ℕ) (numbers : List ℕ) → AscendingNumbers numbers → IsTrue (has_number numbers class)
     → place_number class (filter (λ c. not (eqb c class)) numbers) ≡ numbers
-number_back class [] u h = cc
-number_back class (n ∷ numbers) u h =
-    let b = below_rest n numbers u in
-    elim (eqb n class) as (λ t. eqb n class ≡ t → place_number class (cond (not t) (n ∷ filter (λ c. not (eqb c class)) numbers) (filter (λ c. not (eqb c class)) numbers)) ≡ n ∷ numbers) [
-      | true ↦ λ e.
-          let same = eqb-true n class e in
-          let b' : BelowAll class numbers = subst (λ k. BelowAll k numbers) same b in
-          rw (absent_below class numbers b', place_below class numbers b', same) refl
-      | false ↦ λ e.
-          let m : IsTrue (has_number numbers class) = grind arith in
-          let r = number_back class numbers (ascending_tail n numbers u) m in
-          let a = member_above n class numbers b m in
-          grind (arith, nat_tests)
-    ] refl
+number_back class numbers u h =
+    ap (place_number class) (others_said class numbers)
+    ∙ put_back_removed (λ n. n) nat_lt (λ a b. eqb a b) number_order class class numbers u (found_itself class numbers h)
 
 number_gone : (class : ℕ) (numbers : List ℕ) → has_number numbers class ≡ false → filter (λ c. not (eqb c class)) numbers ≡ numbers
 number_gone class [] h = refl
 number_gone class (n ∷ numbers) h = let r = number_gone class numbers in grind arith
-
--- the link stands before each of the list
-abbrev pub LinkBelowAll : Link → List Link → Type 0
-LinkBelowAll l [] = Unit {0}
-LinkBelowAll l (m ∷ links) = IsTrue (is_link_before l m) × LinkBelowAll l links
-
-link_below_less : (a b : Link) (links : List Link) → IsTrue (is_link_before a b) → LinkBelowAll b links → LinkBelowAll a links
-link_below_less a b [] l h = tt
-link_below_less a b (c ∷ links) l h = (link_order a b c l h.0, link_below_less a b links l h.1)
-
-pub link_below_rest : (l : Link) (links : List Link) → AscendingLinks (l ∷ links) → LinkBelowAll l links
-link_below_rest l [] h = tt
-link_below_rest l (m ∷ links) h = (h.0, link_below_less l m links h.0 (link_below_rest m links h.1))
-
-pub links_tail : (l : Link) (links : List Link) → AscendingLinks (l ∷ links) → AscendingLinks links
-links_tail l [] h = tt
-links_tail l (m ∷ links) h = h.1
 
 -- the link stands before that of the class to each of these parents
 abbrev BelowParents : Link → ℕ → List ℕ → Type 0
@@ -160,24 +115,13 @@ place_behind l class (p ∷ parents) links h =
     let one : place_link new (l ∷ links) ≡ l ∷ place_link new links = (let b = h.0 in grind (arith, nat_tests)) in
     ap (place_links class parents) one ∙ place_behind l class parents (place_link new links) h.1
 
-filtered_below : (l : Link) (p : Link → Bool) (links : List Link) → LinkBelowAll l links → LinkBelowAll l (filter p links)
-filtered_below l p [] h = tt
-filtered_below l p (m ∷ links) h =
-    elim (p m) as (λ t. LinkBelowAll l (cond t (m ∷ filter p links) (filter p links))) [
-      | true ↦ (h.0, filtered_below l p links h.1)
-      | false ↦ filtered_below l p links h.1
-    ]
-
-place_link_below : (l : Link) (links : List Link) → LinkBelowAll l links → place_link l links ≡ l ∷ links
-place_link_below l [] h = refl
-place_link_below l (m ∷ links) h = rw h.0 refl
-
 parents_behind : (l : Link) (class : ℕ) (links : List Link) → LinkBelowAll l links → BelowParents l class (parents_of links class)
 parents_behind l class [] h = tt
 parents_behind l class (m ∷ links) h =
+    let rest = parents_behind l class links (All-tail (λ k. IsTrue (is_link_before l k)) m links h) in
     elim (eqb m.class class) as (λ t. eqb m.class class ≡ t → BelowParents l class (cond t (m.parent ∷ parents_of links class) (parents_of links class))) [
-      | true ↦ λ e. (let b = h.0 in let same = eqb-true m.class class e in grind (arith, nat_tests), parents_behind l class links h.1)
-      | false ↦ λ e. parents_behind l class links h.1
+      | true ↦ λ e. (let b = All-head (λ k. IsTrue (is_link_before l k)) m links h in let same = eqb-true m.class class e in grind (arith, nat_tests), rest)
+      | false ↦ λ e. rest
     ] refl
 
 pub links_back : (class : ℕ) (links : List Link) → AscendingLinks links
@@ -195,7 +139,8 @@ links_back class (l ∷ links) u =
           let same = eqb-true l.class class e in
           let own : place_link (record { class = class; parent = l.parent }) others ≡ l ∷ others =
           subst (λ k. place_link (record { class = k; parent = l.parent }) others ≡ l ∷ others) same
-          (place_link_below l others (filtered_below l (λ (l : Link). not (eqb l.class class)) links b)) in
+          (place_first (λ l. l) is_link_before (λ a b. is_link a.class a.parent b) order_of_links l others
+          (All-filter (λ (l : Link). not (eqb l.class class)) (λ k. IsTrue (is_link_before l k)) links b)) in
           ap (place_links class ps) own ∙ behind ∙ ap (λ ls. l ∷ ls) r
       | false ↦ λ e. behind ∙ ap (λ ls. l ∷ ls) r
     ] refl

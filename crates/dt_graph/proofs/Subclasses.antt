@@ -1,13 +1,16 @@
 -- The lowest class that has a given one as a parent: the first that has it among the classes below it.
-use Rattle.std.proofs.Common.{◌≡◌, ◌==◌, ℕ, ◌≤◌, Bool, false, ◌&&◌, IsTrue, List, [], ◌∷◌, Option, Some, None, find, refl, sym, ap, subst, ◌∙◌, ⊎_elim, eqb-true, ltb-true, eq-eqb, nat_lt, arith}
+use Rattle.std.proofs.Common.{◌≡◌, ◌==◌, ℕ, ◌≤◌, Bool, false, ◌&&◌, IsTrue, List, [], ◌∷◌, Option, Some, None, find, refl, sym, ap, subst, ◌∙◌, ⊎_elim, eqb-true, eq-eqb, arith}
 use Rattle.std.proofs.lemmas.Bool.{or_cases, or_left, and_parts, and_from, and_right, false≢true, cases_Bool, cond-true, cond-false}
+use Rattle.std.proofs.lemmas.Bool.Decides.{nat_tests}
+use Rattle.std.proofs.lemmas.List.Elements.{All-weaker}
 use Rattle.std.specs.Option.{option_map}
-use Rattle.dt_graph.specs.Graph.{Link, has_number, is_link, has_link, AscendingLinks}
+use Rattle.dt_graph.specs.Graph.{Link, has_number, is_link, has_link, is_link_before, AscendingLinks}
 use Rattle.dt_graph.specs.Lawful.{AscendingNumbers}
 use Rattle.dt_graph.specs.GraphChange.{lowest_subclass}
-use Rattle.dt_graph.proofs.Restored.{LinkBelowAll, link_below_rest, links_tail}
+use Rattle.dt_graph.proofs.LinkLists.{each_link}
+use Rattle.dt_graph.proofs.Ascending.{LinkBelowAll, link_below_rest, links_tail, first_is_lowest}
 use Rattle.dt_graph.proofs.AscendingSets.{same_truth, ascending_tail}
-use Rattle.dt_graph.proofs.Members.{first_is_lowest, has_first, has_later, is_later}
+use Rattle.dt_graph.proofs.Members.{has_first, has_later, is_later}
 
 -- the lowest number that passes the test
 abbrev pub IsLowest : (ℕ → Bool) → Option ℕ → Type 0
@@ -53,18 +56,14 @@ lowest_number test (x ∷ numbers) ascending = ⊎_elim
 
 -- ---- the class of the first link to a parent
 
+not_lower : (l m : Link) → IsTrue (is_link_before l m) → l.class ≤ m.class
+not_lower l m before = grind (arith, nat_tests)
+
 -- the links after a link are of its class or of a higher one
 link_after : (l : Link) (links : List Link) → LinkBelowAll l links → (a b : ℕ) → IsTrue (has_link links a b) → l.class ≤ a
-link_after l [] after a b linked = absurd (false≢true linked)
-link_after l (m ∷ links) after a b linked = ⊎_elim
-    (λ here.
-    let same = eqb-true m.class a (and_parts (m.class == a) (m.parent == b) here).0 in
-    ⊎_elim
-    (λ less. omega (arith, ltb-true l.class m.class less))
-    (λ more. omega (arith, eqb-true l.class m.class (and_parts (l.class == m.class) (nat_lt l.parent m.parent) more).0))
-    (or_cases (nat_lt l.class m.class) ((l.class == m.class) && nat_lt l.parent m.parent) after.0))
-    (λ later. link_after l links after.1 a b later)
-    (or_cases (is_link a b m) (has_link links a b) linked)
+link_after l links after a b linked =
+    each_link (λ a b. l.class ≤ a) links
+    (All-weaker (λ m. IsTrue (is_link_before l m)) (λ m. l.class ≤ m.class) (λ m before. not_lower l m before) links after) a b linked
 
 pub lowest_linked : (links : List Link) (class : ℕ) → AscendingLinks links → IsLowest (λ n. has_link links n class) (lowest_subclass links class)
 lowest_linked [] class ascending = λ n. refl

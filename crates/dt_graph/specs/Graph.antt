@@ -1,5 +1,5 @@
 -- The class graph: which classes are live, and which class has which parents. Classes are numbers.
-use Rattle.std.specs.Prelude.{◌==◌, ℕ, Bool, ◌&&◌, ◌||◌, IsTrue, nat_lt, List, [], ◌∷◌, count_by}
+use Rattle.std.specs.Prelude.{◌==◌, ℕ, Bool, ◌&&◌, ◌||◌, nat_lt, List, [], ◌∷◌, count_by}
 use Rattle.std.specs.List.{list_any}
 use Rattle.dt_graph.specs.InOrder.{Ascends, place}
 

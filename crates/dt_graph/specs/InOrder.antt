@@ -1,5 +1,5 @@
 -- Lists in strict order of a key: each element stands before the next, so no key stands twice.
-use Rattle.std.specs.Prelude.{◌≡◌, Bool, false, true, not, IsTrue, if◌then◌else◌, List, [], ◌∷◌, Option, None, Some, filter, find}
+use Rattle.std.specs.Prelude.{◌≡◌, Bool, false, not, IsTrue, if◌then◌else◌, List, [], ◌∷◌, Option, None, Some, filter, find}
 
 -- keys in strict order: one stands before another, the other before the one, or they are equal
 pub record StrictOrder {K : Type 0} (before same : K → K → Bool) : Type 0 where

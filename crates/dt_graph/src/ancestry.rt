@@ -74,6 +74,21 @@ fn remove_at(rows: &mut [ClassSet], places: &ClassSet, class: ClassNo)
     }
 }
 
+/// Each row that `places` names has these classes no more.
+fn remove_all_at(rows: &mut [ClassSet], places: &ClassSet, classes: &ClassSet)
+    requires { length rows.old ≡ CLASSES }
+    ensures count { length rows.new ≡ CLASSES }
+    ensures rows { (k n : ℕ) → row_has rows.new k n
+        ≡ (row_has rows.old k n && not (has_number places.now k && has_number classes.now n)) }
+{
+    places.law();
+    let mut least = 0;
+    while let Some(place) = places.first_from(least) {
+        rows[place.number() as usize].remove_all(classes);
+        least = place.number() as usize + 1;
+    }
+}
+
 impl Ancestry {
     /// Every class is at or below itself alone. All memory is taken here.
     pub(crate) fn new(alloc: Global) -> Result<Ancestry, NoMemory>
@@ -122,8 +137,25 @@ impl Ancestry {
     {
         let lows = self.below(class).copy();
         let highs = self.above(parent).copy();
-        insert_all_at(&mut self.above, &lows, &highs);
-        insert_all_at(&mut self.below, &highs, &lows);
+        self.put_below(&lows, &highs);
+    }
+
+    /// From now on each of the lows is at or below each of the highs.
+    pub(crate) fn put_below(&mut self, lows: &ClassSet, highs: &ClassSet)
+        ensures { (low high : ℕ) → low < CLASSES → high < CLASSES → holds self.new low high
+            ≡ (holds self.old low high || (has_number lows.now low && has_number highs.now high)) }
+    {
+        insert_all_at(&mut self.above, lows, highs);
+        insert_all_at(&mut self.below, highs, lows);
+    }
+
+    /// From now on none of the lows is at or below any of the highs.
+    pub(crate) fn part(&mut self, lows: &ClassSet, highs: &ClassSet)
+        ensures { (low high : ℕ) → low < CLASSES → high < CLASSES → holds self.new low high
+            ≡ (holds self.old low high && not (has_number lows.now low && has_number highs.now high)) }
+    {
+        remove_all_at(&mut self.above, lows, highs);
+        remove_all_at(&mut self.below, highs, lows);
     }
 
     /// From now on the classes at or above `low` are these.
@@ -131,6 +163,9 @@ impl Ancestry {
         ensures { (l h : ℕ) → l < CLASSES → h < CLASSES
             → holds self.new l h ≡ (if l == low then has_number row.now h else holds self.old l h) }
     {
+        if self.above(low).is_same(row) {
+            return;
+        }
         let old = self.above(low).copy();
         let mut alone = ClassSet::new();
         alone.insert(low);

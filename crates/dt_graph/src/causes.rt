@@ -46,7 +46,8 @@ impl ClassGraph {
         None
     }
 
-    /// Why [`drop_class`](ClassGraph::drop_class) would refuse to drop the class; `None` exactly where it wouldn't.
+    /// Why [`drop_class`](ClassGraph::drop_class) would refuse to drop the class; `None` exactly where it wouldn't. It asks
+    /// the classes below the class, from the lowest on, for the first that has it as a parent.
     pub fn drop_cause(&self, class: ClassNo) -> Option<GraphFault>
         ensures { result ≡ drop_cause self.now class }
     {

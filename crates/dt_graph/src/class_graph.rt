@@ -1,6 +1,6 @@
 ghost use Rattle.std.specs.Prelude.{◌≡◌, ℕ, ◌<◌, ◌≤◌, ◌↔◌, IsTrue, ◌++◌, IfOk, OnOk, OnErr, None, length, find};
 ghost use Rattle.dt_graph.specs.Refusal.{ok_unless};
-ghost use Rattle.dt_graph.specs.Graph.{Graph, empty_graph, is_live, has_link, parent_count};
+ghost use Rattle.dt_graph.specs.Graph.{Graph, empty_graph, has_number, is_live, has_link, parent_count};
 ghost use Rattle.dt_graph.specs.Parents.{parents_of};
 ghost use Rattle.dt_graph.specs.Below.{HasNoCycle, IsBelow, is_below};
 ghost use Rattle.dt_graph.specs.Descendants.{descendants};
@@ -12,13 +12,21 @@ ghost use Rattle.dt_graph.specs.GraphChange.{add_cause, add_effect, drop_cause, 
 use crate::ancestry::Ancestry;
 use crate::class_no::ClassNo;
 use crate::class_rows::ClassRows;
+use crate::class_set::ClassSet;
 use crate::graph_fault::GraphFault;
+use crate::limits::CLASSES;
 use crate::no_memory::NoMemory;
 use crate::renewal::{join_all, renew};
+use arrayvec::ArrayVec;
 use std::alloc::Global;
 use std::marker::Model;
 
+const PLACES: usize = CLASSES as usize;
+
 /// The live classes and the links from classes to parents.
+///
+/// Which class is at or below which is kept both ways, a bit each, so that a question is one step. That, the classes and
+/// their parents take about 1.2 MB, however many classes are live, all of it when the graph is made; no change takes memory.
 #[derive(Debug, Drop)]
 pub struct ClassGraph {
     rows: ClassRows,
@@ -38,7 +46,8 @@ impl Model for ClassGraph {
 }
 
 impl ClassGraph {
-    /// A graph with no class. All memory that changes will ever need is taken here; [`NoMemory`] where none was found.
+    /// A graph with no class. All memory that changes will ever need, about 1.2 MB, is taken and written here; [`NoMemory`] where
+    /// none was found.
     pub fn new(alloc: Global) -> Result<ClassGraph, NoMemory>
         ensures { IfOk result (λ g. g ≡ empty_graph) }
     {
@@ -47,14 +56,30 @@ impl ClassGraph {
         Ok(ClassGraph { rows, ancestry })
     }
 
-    /// Whether the class is live.
+    /// Whether the class is live. It takes one step.
     pub fn is_live(&self, class: ClassNo) -> bool
         ensures { result ≡ is_live self.now class }
     {
         self.rows.is_live(class)
     }
 
-    /// The parents of the class, in ascending order: none where it isn't live.
+    /// The live classes, in ascending order, in a list that takes 4 KB where it stands and no other memory. It asks each
+    /// of the 2,048 class numbers.
+    pub fn classes(&self) -> ArrayVec<ClassNo, PLACES>
+        ensures { result.items ≡ self.now.classes }
+    {
+        self.law();
+        let mut classes = ArrayVec::new();
+        for number in 0..PLACES {
+            let class = ClassNo::from_index(number);
+            if self.is_live(class) {
+                classes.push(class);
+            }
+        }
+        classes
+    }
+
+    /// The parents of the class, 16 at most, in ascending order: none where it isn't live. It takes one step.
     pub fn parents(&self, class: ClassNo) -> &[ClassNo]
         ensures { result.now ≡ parents_of self.now.links class }
     {
@@ -79,9 +104,9 @@ impl ClassGraph {
     pub(crate) fn lowest_subclass(&self, class: ClassNo) -> Option<ClassNo>
         ensures { result ≡ lowest_subclass self.now.links class }
     {
-        let below = self.ancestry.below(class);
+        let below = self.below(class);
         below.law();
-        self.rows.law();
+        self.law();
         self.first_with_parent(below.classes().as_slice(), class)
     }
 
@@ -95,7 +120,7 @@ impl ClassGraph {
             .find(|class| self.has_link(*class, parent))
     }
 
-    /// Whether `low` equals `high` or a list of links leads from `low` to `high`.
+    /// Whether `low` equals `high` or a list of links leads from `low` to `high`. It reads one bit.
     pub fn is_below(&self, low: ClassNo, high: ClassNo) -> bool
         ensures test { result ≡ is_below self.now.links low high }
         ensures relation { IsTrue result ↔ IsBelow self.now.links low high }
@@ -103,8 +128,33 @@ impl ClassGraph {
         self.ancestry.holds(low, high)
     }
 
+    /// The classes at or below `class`. Where `class` is live, they are the live ones at or below it; where it isn't,
+    /// `class` alone. Kept, so it takes one step.
+    pub fn below(&self, class: ClassNo) -> &ClassSet
+        ensures test { (low : ℕ) → has_number result.now low ≡ is_below self.now.links low class }
+        ensures live { IsTrue (is_live self.now class) → result.now ≡ descendants self.now class }
+    {
+        self.rows.law();
+        let below = self.ancestry.below(class);
+        below.law();
+        below
+    }
+
+    /// The classes at or above `class`. Where `class` is live, they are live; where it isn't, `class` alone. Kept, so it
+    /// takes one step.
+    pub fn above(&self, class: ClassNo) -> &ClassSet
+        ensures test { (high : ℕ) → has_number result.now high ≡ is_below self.now.links class high }
+        ensures live { (high : ℕ) → IsTrue (is_live self.now class) → IsTrue (has_number result.now high)
+            → IsTrue (is_live self.now high) }
+    {
+        self.rows.law();
+        let above = self.ancestry.above(class);
+        above.law();
+        above
+    }
+
     /// Appends the live classes at or below `class`, in ascending order: none where `class` isn't live. [`NoMemory`]
-    /// where no memory was found; `out` is as it was then.
+    /// where no memory was found; `out` is as it was then. It takes a step for each of them and for the words of a set.
     pub fn descendants_into(&self, class: ClassNo, out: &mut Vec<ClassNo>) -> Result<(), NoMemory>
         ensures ok { OnOk result (out.new.items ≡ out.old.items ++ descendants self.now class) }
         ensures err { OnErr result (out.new.items ≡ out.old.items) }
@@ -113,12 +163,12 @@ impl ClassGraph {
         if !self.is_live(class) {
             return Ok(());
         }
-        let below = self.ancestry.below(class);
-        below.law();
+        let below = self.below(class);
         below.push_into(out)
     }
 
-    /// How many live classes are at or below `class`: none where `class` itself isn't live.
+    /// How many live classes are at or below `class`, 2,048 at most: none where `class` itself isn't live. It counts the
+    /// bits of the 32 words of a set.
     pub fn below_count(&self, class: ClassNo) -> usize
         ensures { result ≡ length (descendants self.now class) }
     {
@@ -126,12 +176,11 @@ impl ClassGraph {
         if !self.is_live(class) {
             return 0;
         }
-        let below = self.ancestry.below(class);
-        below.law();
-        below.len()
+        self.below(class).len()
     }
 
-    /// An equal graph, with memory of its own; [`NoMemory`] where none was found.
+    /// An equal graph, with memory of its own; [`NoMemory`] where none was found. It copies about 1.2 MB, however many classes
+    /// are live.
     pub fn copy(&self) -> Result<ClassGraph, NoMemory>
         ensures { IfOk result (λ g. g ≡ self.now) }
     {
@@ -159,6 +208,8 @@ impl ClassGraph {
     /// The causes of a refusal, in order: the class is live already; there are more than
     /// [`PARENTS`](crate::PARENTS) parents; a parent isn't live (the first); a parent is named twice (the first
     /// that equals an earlier one). After a refusal the graph is as it was.
+    ///
+    /// It takes a step for each parent and, for each, one for each class at or above it.
     pub fn add(&mut self, class: ClassNo, parents: &[ClassNo]) -> Result<(), GraphFault>
         ensures answer { result ≡ ok_unless (add_cause self.old class parents.now) tt }
         ensures ok { OnOk result (self.new ≡ add_effect self.old class parents.now) }
@@ -171,7 +222,7 @@ impl ClassGraph {
         Ok(())
     }
 
-    /// Drops a class and its links to parents.
+    /// Drops a class and its links to parents. It takes a step for each class above it.
     ///
     /// The causes of a refusal, in order: the class isn't live; it is a parent of others (the lowest of these is
     /// answered). After a refusal the graph is as it was.
@@ -187,7 +238,8 @@ impl ClassGraph {
         Ok(())
     }
 
-    /// Makes one link more.
+    /// Makes one link more. It takes a step for each class at or below the class and for each at or above the parent,
+    /// each through the 32 words of a set.
     ///
     /// The causes of a refusal, in order: the class isn't live; the parent isn't; the link is there already; the
     /// class has [`PARENTS`](crate::PARENTS) parents; the parent is at or below the class. After a refusal the
@@ -204,7 +256,9 @@ impl ClassGraph {
         Ok(())
     }
 
-    /// Takes a link away.
+    /// Takes a link away. It takes a step, through the 32 words of a few sets, for each class at or below the class and for
+    /// each that the class is below by this link alone; and one for each pair of these in which a class keeps what most
+    /// below the class lose, or loses what it mostly keeps.
     ///
     /// The causes of a refusal, in order: the class isn't live; the parent isn't; the link isn't there. After a
     /// refusal the graph is as it was.
@@ -220,10 +274,18 @@ impl ClassGraph {
         Ok(())
     }
 
-    /// The class is as it was before a change: live with these parents alone, or not live.
+    /// For undoing alone: the class is as it was before one change, live with these parents alone or not live.
     ///
-    /// The graph that this leaves must be lawful, as it is where a change of this class alone is undone. There are at
-    /// most [`PARENTS`](crate::PARENTS) parents.
+    /// Who undoes a change kept [`is_live`](ClassGraph::is_live) and [`parents`](ClassGraph::parents) of its class before
+    /// it; every change touches one class and its links to parents. The last change is undone first, so that all other
+    /// classes are as they were then; the condition holds and the graph is the one before the change
+    /// ([`changes_are_undone`](crate::changes_are_undone)). No call tests the condition: for any other purpose take
+    /// [`add`](ClassGraph::add), [`drop_class`](ClassGraph::drop_class), [`link`](ClassGraph::link) and
+    /// [`unlink`](ClassGraph::unlink), which refuse.
+    ///
+    /// It never wants memory. It costs what the change costs that it undoes, and where that was an unlink, up to one step
+    /// for each class at or below this one and each class that it is below again.
+    #[doc(hidden)]
     pub fn restore(&mut self, class: ClassNo, is_live: bool, parents: &[ClassNo])
         requires few { length parents.now ≤ PARENTS }
         requires lawful { LawfulGraph (restore_effect self.old class is_live parents.now) }

@@ -4,9 +4,9 @@ ghost use Rattle.std.specs.Option.{SomeIff};
 use crate::limits::CLASSES;
 use std::marker::Model;
 
-/// The number of a class, below [`CLASSES`]; by default 0. Who numbers classes by their names gives a class that is
+/// The number of a class, below [`CLASSES`]. Who numbers classes by their names gives a class that is
 /// dropped and added again the same number.
-#[derive(Clone, Copy, Debug, Default, PartialEq, Eq, PartialOrd, Ord)]
+#[derive(Clone, Copy, Debug, PartialEq, Eq, PartialOrd, Ord)]
 pub struct ClassNo {
     number: u16,
 }
@@ -24,6 +24,15 @@ impl Model for ClassNo {
     ghost inverse = { λ n. record { number = n } };
 }
 
+impl Default for ClassNo {
+    /// The class of the number 0.
+    fn default() -> ClassNo
+        ensures { result ≡ 0 }
+    {
+        ClassNo { number: 0 }
+    }
+}
+
 impl ClassNo {
     /// The class of this number; `None` exactly where the number is [`CLASSES`] or more.
     pub fn new(number: u16) -> Option<ClassNo>
@@ -36,7 +45,7 @@ impl ClassNo {
         }
     }
 
-    /// The number.
+    /// The number, from 0 to 2,047.
     pub fn number(self) -> u16
         ensures value { result ≡ self }
         ensures in_range { result < CLASSES }
@@ -44,7 +53,7 @@ impl ClassNo {
         self.number
     }
 
-    /// The class of a place in a table of all classes.
+    // The class of a number in range.
     pub(crate) fn from_index(index: usize) -> ClassNo
         requires { index < CLASSES }
         ensures { result ≡ index }

@@ -1,7 +1,7 @@
-ghost use Rattle.std.specs.Prelude.{◌≡◌, ◌==◌, ℕ, ◌<◌, ◌≤◌, ◌&&◌, ◌||◌, not, [], ◌++◌, length, All, OnOk, OnErr};
+ghost use Rattle.std.specs.Prelude.{◌≡◌, ◌==◌, ℕ, ◌<◌, ◌≤◌, ◌&&◌, ◌||◌, not, List, [], ◌++◌, length, IsTrue, All, OnOk, OnErr};
 ghost use Rattle.dt_graph.specs.Graph.{has_number, place_number};
 ghost use Rattle.dt_graph.specs.Lawful.{AscendingNumbers};
-ghost use Rattle.dt_graph.specs.ClassSet.{first_from};
+ghost use Rattle.dt_graph.specs.FirstFrom.{first_from};
 
 use crate::class_no::ClassNo;
 use crate::limits::CLASSES;
@@ -17,9 +17,14 @@ const WORDS: usize = CLASSES as usize / BITS;
 
 const PLACES: usize = CLASSES as usize;
 
-/// A set of classes, a bit each. It is seen as the list of its numbers in ascending order.
+/// A set of classes. It is seen as the list of its numbers in ascending order, which is all that two sets with the same
+/// numbers can differ in: nothing ([`ClassSet::law`]).
+///
+/// A set takes 256 bytes, a bit for each class number, wherever it stands, and no other memory. A question about one
+/// class reads one word; all other calls go through the 32 words at most once, but for those that name the classes one
+/// by one.
 #[derive(Clone, Debug, Drop)]
-pub(crate) struct ClassSet {
+pub struct ClassSet {
     words: [u64; WORDS],
 }
 
@@ -36,37 +41,47 @@ impl Model for ClassSet {
 
 impl ClassSet {
     /// The set with no class.
-    pub(crate) fn new() -> ClassSet
+    pub fn new() -> ClassSet
         ensures { result ≡ [] }
     {
         ClassSet { words: [0; WORDS] }
     }
 
     /// An equal set.
-    pub(crate) fn copy(&self) -> ClassSet
+    pub fn copy(&self) -> ClassSet
         ensures { result ≡ self.now }
     {
         ClassSet { words: self.words }
     }
 
     /// What holds of every set of classes. It does nothing: a caller whose reasoning needs this calls it.
-    pub(crate) fn law(&self)
+    pub fn law(&self)
         ensures ascend { AscendingNumbers self.now }
         ensures in_range { All (λ n. n < CLASSES) self.now }
+        ensures below_limit { (n : ℕ) → IsTrue (has_number self.now n) → n < CLASSES }
+        ensures determined { (numbers : List ℕ) → AscendingNumbers numbers
+            → ((n : ℕ) → has_number numbers n ≡ has_number self.now n) → self.now ≡ numbers }
     {
         let _ = &self.words;
     }
 
     /// Whether the class is in the set.
-    pub(crate) fn contains(&self, class: ClassNo) -> bool
+    pub fn contains(&self, class: ClassNo) -> bool
         ensures { result ≡ has_number self.now class }
     {
         let number = class.number() as usize;
         (self.words[number / BITS] >> (number % BITS)) & 1 == 1
     }
 
-    /// How many classes are in the set.
-    pub(crate) fn len(&self) -> usize
+    /// Whether it is the other set; where it isn't, nothing is said.
+    pub(crate) fn is_same(&self, other: &ClassSet) -> bool
+        ensures { IsTrue result → self.now ≡ other.now }
+    {
+        self.words == other.words
+    }
+
+    /// How many classes are in the set, 2,048 at most.
+    pub fn len(&self) -> usize
         ensures value { result ≡ length self.now }
         ensures in_range { result ≤ CLASSES }
     {
@@ -77,8 +92,9 @@ impl ClassSet {
         count
     }
 
-    /// The lowest class of the set whose number is `least` or more.
-    pub(crate) fn first_from(&self, least: usize) -> Option<ClassNo>
+    /// The lowest class of the set whose number is `least` or more; `None` where there is none. It looks at the words
+    /// up to that class.
+    pub fn first_from(&self, least: usize) -> Option<ClassNo>
         ensures { result ≡ first_from least self.now }
     {
         let words = &self.words;
@@ -99,15 +115,16 @@ impl ClassSet {
     }
 
     /// The class is in the set from now on.
-    pub(crate) fn insert(&mut self, class: ClassNo)
-        ensures { self.new ≡ place_number class self.old }
+    pub fn insert(&mut self, class: ClassNo)
+        ensures list { self.new ≡ place_number class self.old }
+        ensures members { (n : ℕ) → has_number self.new n ≡ ((class == n) || has_number self.old n) }
     {
         let number = class.number() as usize;
         self.words[number / BITS] |= 1 << (number % BITS);
     }
 
     /// The class isn't in the set from now on.
-    pub(crate) fn remove(&mut self, class: ClassNo)
+    pub fn remove(&mut self, class: ClassNo)
         ensures { (n : ℕ) → has_number self.new n ≡ (has_number self.old n && not (n == class)) }
     {
         let number = class.number() as usize;
@@ -115,7 +132,7 @@ impl ClassSet {
     }
 
     /// The classes of the other set are in the set from now on, too.
-    pub(crate) fn insert_all(&mut self, other: &ClassSet)
+    pub fn insert_all(&mut self, other: &ClassSet)
         ensures { (n : ℕ) → has_number self.new n ≡ (has_number self.old n || has_number other.now n) }
     {
         for i in 0..WORDS {
@@ -123,37 +140,43 @@ impl ClassSet {
         }
     }
 
-    /// The classes that aren't in the other set.
-    pub(crate) fn without(&self, other: &ClassSet) -> ClassSet
-        ensures { (n : ℕ) → has_number result n ≡ (has_number self.now n && not (has_number other.now n)) }
+    /// The classes of the other set aren't in the set from now on.
+    pub fn remove_all(&mut self, other: &ClassSet)
+        ensures { (n : ℕ) → has_number self.new n ≡ (has_number self.old n && not (has_number other.now n)) }
     {
-        let mut words = self.words;
         for i in 0..WORDS {
-            words[i] &= !other.words[i];
+            self.words[i] &= !other.words[i];
         }
-        ClassSet { words }
     }
 
-    /// Appends the classes, in ascending order. Where memory is wanting, `out` is as it was.
-    pub(crate) fn push_into(&self, out: &mut Vec<ClassNo>) -> Result<(), NoMemory>
+    /// The classes that aren't in the other set.
+    pub fn without(&self, other: &ClassSet) -> ClassSet
+        ensures { (n : ℕ) → has_number result n ≡ (has_number self.now n && not (has_number other.now n)) }
+    {
+        let mut rest = self.copy();
+        rest.remove_all(other);
+        rest
+    }
+
+    /// The classes that are in the other set, too.
+    pub fn intersection(&self, other: &ClassSet) -> ClassSet
+        ensures { (n : ℕ) → has_number result n ≡ (has_number self.now n && has_number other.now n) }
+    {
+        self.without(&self.without(other))
+    }
+
+    /// Appends the classes, in ascending order. [`NoMemory`] where no memory was found; `out` is as it was
+    /// then.
+    pub fn push_into(&self, out: &mut Vec<ClassNo>) -> Result<(), NoMemory>
         ensures ok { OnOk result (out.new.items ≡ out.old.items ++ self.now) }
         ensures err { OnErr result (out.new.items ≡ out.old.items) }
     {
-        self.law();
-        let before = out.len();
-        let mut least = 0;
-        while let Some(class) = self.first_from(least) {
-            if out.push(class).is_err() {
-                out.truncate(before);
-                return Err(NoMemory);
-            }
-            least = class.number() as usize + 1;
-        }
+        out.extend_from_slice(self.classes().as_slice())?;
         Ok(())
     }
 
-    /// The classes in ascending order.
-    pub(crate) fn classes(&self) -> ArrayVec<ClassNo, PLACES>
+    /// The classes in ascending order, in a list that takes 4 KB where it stands and no other memory.
+    pub fn classes(&self) -> ArrayVec<ClassNo, PLACES>
         ensures { result.items ≡ self.now }
     {
         self.law();

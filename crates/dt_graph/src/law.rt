@@ -6,6 +6,9 @@ ghost use Rattle.dt_graph.specs.Restore.{restore_effect};
 ghost use Rattle.dt_graph.specs.Lawful.{LawfulGraph};
 ghost use Rattle.dt_graph.specs.GraphChange.{add_cause, add_effect, drop_cause, drop_effect, link_cause, link_effect, unlink_cause, unlink_effect, first_repeated};
 
+use crate::class_graph::ClassGraph;
+use crate::class_set::ClassSet;
+
 /// The graph with no class is lawful, and a change of a lawful graph that isn't refused leaves a lawful one. It does
 /// nothing: a caller whose reasoning needs this calls it.
 pub fn changes_keep_law()
@@ -86,3 +89,12 @@ pub fn changes_are_undone()
     ensures restore { (old new : Graph) (class : ℕ) → LawfulGraph old → drop_effect new class ≡ drop_effect old class
         → restore_effect new class (is_live old class) (parents_of old.links class) ≡ old }
 {}
+
+/// Types whose values threads may hand on and share.
+fn is_shared<T: Send + Sync>() {}
+
+/// A graph may be handed to another thread, and read by several.
+pub fn graphs_are_shared() {
+    is_shared::<ClassGraph>();
+    is_shared::<ClassSet>();
+}

@@ -22,10 +22,11 @@ mod steps;
 pub use below::{below_is_an_order, below_test_agrees};
 pub use class_graph::ClassGraph;
 pub use class_no::ClassNo;
+pub use class_set::ClassSet;
 pub use graph_fault::GraphFault;
 pub use law::{
-    changes_are_undone, changes_keep_law, refusals_are_needed, what_changes_leave,
-    what_restoring_leaves,
+    changes_are_undone, changes_keep_law, graphs_are_shared, refusals_are_needed,
+    what_changes_leave, what_restoring_leaves,
 };
 pub use laws::{law_of_below, others_stay_below};
 pub use limits::{CLASSES, PARENTS};

@@ -26,6 +26,11 @@ impl<L: Ledger> Model for Steps<L> {
 impl<L: Ledger> Steps<L> {
     /// A count of 0, in the ledger that the blank becomes. The blank has that ledger's name and all its parts, one at
     /// least.
+    ///
+    /// A caller that isn't generic in a ledger gets a count in two steps: it makes a blank of one part and hands it to a
+    /// function of its own that is generic in `L: Ledger` and has these three conditions of its blank, by
+    /// `function::<Brand>(Blank::new(1))` with [`Brand`](std::marker::Brand); there `Steps::<L>::start(blank)` is the
+    /// count, which it passes on by `&mut`.
     pub fn start(blank: Blank) -> Steps<L>
         requires name { blank.name ≡ L.name }
         requires parts { blank.parts ≡ L.parts }

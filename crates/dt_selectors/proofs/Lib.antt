@@ -3,3 +3,5 @@ pub mod LawfulChanges
 pub mod Rows
 pub mod Texts
 pub mod NameLists
+pub mod LiveLists
+pub mod Undoing

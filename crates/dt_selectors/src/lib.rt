@@ -8,7 +8,10 @@ mod names;
 mod numbers;
 mod selectors;
 
-pub use law::{changes_keep_law, changes_touch_one_selector, names_keep_their_numbers};
+pub use law::{
+    changes_are_undone, changes_keep_law, changes_touch_one_selector,
+    names_and_selectors_are_shared, names_keep_their_numbers,
+};
 pub use laws::lists_of_names_keep_numbers;
 pub use limits::{BODIES, NAMES, SELECTORS};
 pub use names::{NameFault, Names};

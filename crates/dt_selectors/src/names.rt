@@ -9,19 +9,23 @@ use indexmap::IndexSet;
 use std::alloc::Global;
 use std::boxed::BoxedSlice;
 use std::marker::Model;
+use thiserror::Error;
 
-/// Why a name has no number.
-#[derive(Clone, Copy, Debug, PartialEq, Eq)]
+/// Why a name has no number. The names are as they were.
+#[derive(Clone, Copy, Debug, PartialEq, Eq, Error)]
 pub enum NameFault {
     /// The name is new, and there are as many names as there may be.
+    #[error("there are as many names as there may be")]
     NamesFull,
     /// Memory was wanted, and none was found.
+    #[error("no memory")]
     NoMemory,
 }
 
 /// Names, numbered from 0 in the order of their first appearance, up to a limit.
 ///
-/// A name is 1 to 64 bytes that print, no space among them (33 to 126); [`Names::is_name`] tells.
+/// A name is 1 to 64 bytes that print, no space among them (33 to 126); [`Names::is_name`] tells. Memory grows with the
+/// names' bytes; none is given back before the whole.
 #[derive(Debug, Drop)]
 pub struct Names {
     alloc: Global,
@@ -57,7 +61,8 @@ fn are_name_bytes(text: &[u8]) -> bool
 }
 
 impl Names {
-    /// No name yet, and at most `limit` of them to come; the limit is from 1 to [`NAMES`].
+    /// No name yet, and at most `limit` of them to come; the limit is from 1 to [`NAMES`]. It takes no memory in
+    /// proportion to the limit; [`NoMemory`] where none was found.
     pub fn new(alloc: Global, limit: u32) -> Result<Names, NoMemory>
         requires { (1 ≤ limit) × (limit ≤ NAMES) }
         ensures { IfOk result (λ names. names ≡ record { limit = limit; texts = [] }) }
@@ -82,7 +87,7 @@ impl Names {
         let _ = &self.texts;
     }
 
-    /// Whether the text may be a name: 1 to 64 bytes that print, no space among them.
+    /// Whether the text may be a name: 1 to 64 bytes that print, no space among them. It reads 64 bytes at most.
     pub fn is_name(text: &[u8]) -> bool
         ensures { result ≡ is_name text.now }
     {
@@ -93,7 +98,8 @@ impl Names {
     ///
     /// [`NamesFull`](NameFault::NamesFull) exactly where the name is new and there are as many names as the limit.
     /// [`NoMemory`](NameFault::NoMemory) where a new name finds no memory; a known one takes none. After an error the
-    /// names are as they were. The text must be a name: [`Names::is_name`] tells.
+    /// names are as they were. The text must be a name: [`Names::is_name`] tells. It takes a few steps, however many
+    /// names there are, but where the store of names grows.
     pub fn number(&mut self, text: &[u8]) -> Result<u32, NameFault>
         requires { IsTrue (is_name text.now) }
         ensures ok { OnOk result (self.new ≡ with_name self.old text.now) }
@@ -115,7 +121,7 @@ impl Names {
         }
     }
 
-    /// The name of the number; `None` exactly where no name has it.
+    /// The name of the number; `None` exactly where no name has it. It takes one step.
     pub fn text(&self, number: u32) -> Option<&[u8]>
         ensures value { option_copied result ≡ slice_get self.now.texts number }
         ensures name { IfSome result (λ text. IsTrue (is_name text.now)) }
@@ -125,7 +131,7 @@ impl Names {
         Some(text.as_slice())
     }
 
-    /// How many names there are.
+    /// How many names there are, up to the limit.
     pub fn len(&self) -> u32
         ensures { result ≡ length self.now.texts }
     {

@@ -1,11 +1,12 @@
 ghost use Rattle.std.specs.Prelude.{◌≡◌, ℕ, ◌<◌, ◌≤◌};
 ghost use Rattle.std.specs.Option.{SomeIff};
+ghost use Rattle.dt_selectors.specs.declared.limits.TheConstants.{BODIES, SELECTORS};
 
 use crate::limits::SELECTORS;
 use std::marker::Model;
 
 /// The number of a selector, below [`SELECTORS`].
-#[derive(Clone, Copy, Debug, Default, PartialEq, Eq, PartialOrd, Ord)]
+#[derive(Clone, Copy, Debug, PartialEq, Eq, PartialOrd, Ord)]
 pub struct SelNo {
     number: u16,
 }
@@ -23,6 +24,15 @@ impl Model for SelNo {
     ghost inverse = { λ n. record { number = n } };
 }
 
+impl Default for SelNo {
+    /// The selector of the number 0.
+    fn default() -> SelNo
+        ensures { result ≡ 0 }
+    {
+        SelNo { number: 0 }
+    }
+}
+
 impl SelNo {
     /// The selector of this number; `None` exactly where the number is [`SELECTORS`] or more.
     pub fn new(number: u16) -> Option<SelNo>
@@ -35,29 +45,51 @@ impl SelNo {
         }
     }
 
-    /// The number.
+    /// The number, from 0 to 4,095.
     pub fn number(self) -> u16
         ensures value { result ≡ self }
         ensures in_range { result < SELECTORS }
     {
         self.number
     }
+
+    // The selector of a number in range.
+    pub(crate) fn from_index(index: usize) -> SelNo
+        requires { index < SELECTORS }
+        ensures { result ≡ index }
+    {
+        SelNo {
+            number: index as u16,
+        }
+    }
 }
 
 /// The number of a body, any `u16`. A body is what answers a send; here it is a number alone.
-#[derive(Clone, Copy, Debug, Default, PartialEq, Eq, PartialOrd, Ord)]
+#[derive(Clone, Copy, Debug, PartialEq, Eq, PartialOrd, Ord)]
 pub struct BodyNo {
     number: u16,
 }
 
 impl Model for BodyNo {
-    ghost use Rattle.std.specs.Prelude.{ℕ, ◌<◌, ◌^◌};
+    ghost use Rattle.std.specs.Prelude.{ℕ, ◌<◌};
+    ghost use Rattle.dt_selectors.specs.declared.limits.TheConstants.{BODIES};
 
     ghost Value = { ℕ };
 
     ghost view = { λ b. b.number };
 
+    ghost invariant = { λ b. b.number < BODIES };
+
     ghost inverse = { λ n. record { number = n } };
+}
+
+impl Default for BodyNo {
+    /// The body of the number 0.
+    fn default() -> BodyNo
+        ensures { result ≡ 0 }
+    {
+        BodyNo { number: 0 }
+    }
 }
 
 impl BodyNo {
@@ -68,9 +100,10 @@ impl BodyNo {
         BodyNo { number }
     }
 
-    /// The number.
+    /// The number, any `u16`.
     pub fn number(self) -> u16
-        ensures { result ≡ self }
+        ensures value { result ≡ self }
+        ensures in_range { result < BODIES }
     {
         self.number
     }
@@ -106,7 +139,7 @@ impl Arity {
         }
     }
 
-    /// The number.
+    /// The number, from 1 to 4.
     pub fn number(self) -> u8
         ensures value { result ≡ self }
         ensures in_range { (0 < result) × (result ≤ 4) }

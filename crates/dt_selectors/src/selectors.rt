@@ -1,26 +1,33 @@
-ghost use Rattle.std.specs.Prelude.{◌≡◌, ◌==◌, ℕ, ◌<◌, ◌≤◌, [], count_by, Some, IfSome, IfOk, OnOk, OnErr};
+ghost use Rattle.std.specs.Prelude.{◌≡◌, ◌==◌, ℕ, ◌<◌, ◌≤◌, [], map, count_by, Some, IfSome, IfOk, OnOk, OnErr};
 ghost use Rattle.dt_graph.specs.Refusal.{ok_unless};
-ghost use Rattle.dt_selectors.specs.Selectors.{arity_in, place_selector, without_selector, add_cause, drop_cause};
+ghost use Rattle.dt_selectors.specs.Selectors.{arity_in, has_selector, place_selector, without_selector, restore_selector, add_cause, drop_cause};
 ghost use Rattle.dt_selectors.specs.Lawful.{LawfulSelectors};
 
 use crate::limits::SELECTORS;
 use crate::numbers::{Arity, SelNo};
+use arrayvec::ArrayVec;
 use dt_graph::NoMemory;
 use std::alloc::Global;
 use std::marker::Model;
+use thiserror::Error;
+
+const PLACES: usize = SELECTORS as usize;
 
 /// Why a change of the selectors is refused. They are as they were.
-#[derive(Clone, Copy, Debug, PartialEq, Eq)]
+#[derive(Clone, Copy, Debug, PartialEq, Eq, Error)]
 pub enum SelectorFault {
     /// The selector is live already.
+    #[error("the selector is live already")]
     SelectorExists,
     /// The selector isn't live.
+    #[error("the selector isn't live")]
     SelectorUnknown,
 }
 
 /// The live selectors, each with how many arguments it takes.
 ///
-/// A row is kept for each selector number, so a look-up is one read, and no change takes memory.
+/// An arity is kept for each of the 4,096 selector numbers, two bytes each, so a look-up and a change take one step
+/// however many selectors are live, and no change takes memory.
 #[derive(Debug, Drop)]
 pub struct Selectors {
     rows: Vec<Option<Arity>>,
@@ -39,8 +46,19 @@ impl Model for Selectors {
     ghost invariant = { λ s. (length s.rows.items ≡ SELECTORS) × AritiesInRange s.rows.items };
 }
 
+// The arity itself. Its range is known to the proof where its number is read.
+fn ranged(arity: Option<Arity>) -> Option<Arity>
+    ensures value { result ≡ arity }
+    ensures in_range { IfSome result (λ arity. (0 < arity) × (arity ≤ 4)) }
+{
+    let arity = arity?;
+    prove!(arity.number() <= 4);
+    Some(arity)
+}
+
 impl Selectors {
-    /// No selector. All the memory that the selectors will ever need is taken here.
+    /// No selector. All the memory that the selectors will ever need, 8 KB, is taken here; [`NoMemory`] where none was
+    /// found.
     pub fn new(alloc: Global) -> Result<Selectors, NoMemory>
         ensures { IfOk result (λ selectors. selectors ≡ []) }
     {
@@ -48,7 +66,7 @@ impl Selectors {
         Ok(Selectors { rows })
     }
 
-    /// Equal selectors, with memory of their own; [`NoMemory`] where none was found.
+    /// Equal selectors, with memory of their own; [`NoMemory`] where none was found. It copies 8 KB.
     pub fn copy(&self) -> Result<Selectors, NoMemory>
         ensures { IfOk result (λ copy. copy ≡ self.now) }
     {
@@ -64,6 +82,29 @@ impl Selectors {
         ensures listed_once { (selector : ℕ) → count_by (λ s. s.number == selector) self.now ≤ 1 }
     {
         let _ = &self.rows;
+    }
+
+    /// The live selectors, in ascending order, in a list that takes 8 KB where it stands and no other memory. It asks each
+    /// of the 4,096 selector numbers.
+    pub fn numbers(&self) -> ArrayVec<SelNo, PLACES>
+        ensures { result.items ≡ map (λ s. s.number) self.now }
+    {
+        self.law();
+        let mut numbers = ArrayVec::new();
+        for number in 0..PLACES {
+            let selector = SelNo::from_index(number);
+            if self.is_live(selector) {
+                numbers.push(selector);
+            }
+        }
+        numbers
+    }
+
+    /// Whether the selector is live.
+    pub fn is_live(&self, selector: SelNo) -> bool
+        ensures { result ≡ has_selector self.now selector }
+    {
+        self.arity(selector).is_some()
     }
 
     /// How many arguments the selector takes; `None` exactly where it isn't live.
@@ -105,5 +146,13 @@ impl Selectors {
         }
         self.rows[usize::from(selector.number())] = None;
         Ok(())
+    }
+
+    /// For undoing: the selector is as it was before a change, live with this arity or not live.
+    pub fn restore(&mut self, selector: SelNo, arity: Option<Arity>)
+        ensures { self.new ≡ restore_selector self.old selector arity }
+    {
+        let arity = ranged(arity);
+        self.rows[usize::from(selector.number())] = arity;
     }
 }

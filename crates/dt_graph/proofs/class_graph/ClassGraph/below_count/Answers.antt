@@ -1,20 +1,11 @@
-use Rattle.std.proofs.Common.{◌<◌, length, sym, ap, subst, ◌∙◌, arith}
-use Rattle.dt_graph.specs.Graph.{Graph}
-use Rattle.dt_graph.specs.Below.{is_below}
+use Rattle.std.proofs.Common.{length, sym, ap, subst, ◌∙◌}
 use Rattle.dt_graph.specs.Lawful.{LawfulGraph}
-use Rattle.dt_graph.specs.declared.limits.TheConstants.{CLASSES}
-use Rattle.dt_graph.proofs.DescendantLists.{no_descendants, descendants_shown}
+use Rattle.dt_graph.proofs.DescendantLists.{no_descendants}
 use Rattle.dt_graph.proofs.class_graph.ClassGraph.below_count.Goals as goal
 
 pub returns-then-not-is_live : goal.returns-then-not-is_live
 returns-then-not-is_live c =
-    let lawful : LawfulGraph c.args.self.now = subst LawfulGraph c.self.view_is c.law.ensures.lawful in
-    ap length (no_descendants c.args.self.now c.args.class lawful (sym c.is_live.ensures ∙ c.if-not-is_live.true))
+    ap length (no_descendants c.args.self.now c.args.class (subst LawfulGraph c.self.view_is c.law.ensures.lawful) (sym c.is_live.ensures ∙ c.if-not-is_live.true))
 
 pub returns : goal.returns
-returns c =
-    let lawful : LawfulGraph c.args.self.now = subst LawfulGraph c.self.view_is c.law.ensures.lawful in
-    let class_in : c.args.class < CLASSES = omega arith in
-    c.len.ensures.value
-    ∙ ap length (descendants_shown c.args.self.now c.args.class c.below-below.result.now lawful (sym c.is_live.ensures ∙ c.if-not-is_live.false) c.law-2.ensures.ascend c.law-2.ensures.in_range
-    (λ low low_in. c.below-below.ensures low low_in ∙ c.self.invariant.each low c.args.class low_in class_in ∙ ap (λ (g : Graph). is_below g.links low c.args.class) c.self.view_is))
+returns c = c.len.ensures.value ∙ ap length (c.below.ensures.live (sym c.is_live.ensures ∙ c.if-not-is_live.false))

@@ -1,0 +1,37 @@
+-- The live classes as those of all numbers that pass a test.
+use Rattle.std.proofs.Common.{◌≡◌, ℕ, zero, suc, ◌+◌, ◌<◌, Bool, List, [], ◌∷◌, ◌++◌, filter, sym, ap, ◌∙◌, arith}
+use Rattle.std.proofs.lemmas.List.Elements.{filter-append}
+use Rattle.std.specs.List.{range_with_len}
+use Rattle.dt_graph.specs.Graph.{Graph, has_number, is_live}
+use Rattle.dt_graph.specs.Lawful.{LawfulGraph}
+use Rattle.dt_graph.specs.declared.limits.TheConstants.{CLASSES}
+use Rattle.dt_graph.proofs.LinkLists.{each_number, has_number-filter, has_number-kept}
+use Rattle.dt_graph.proofs.Ascending.{AscendingNumbers-filter}
+use Rattle.dt_graph.proofs.AscendingSets.{same_truth, same_numbers}
+use Rattle.dt_graph.proofs.ClassBits.{AscendingNumbers-range, has_number-range}
+
+range_more : (a n : ℕ) → range_with_len a (suc n) ≡ range_with_len a n ++ (a + n) ∷ []
+range_more a zero = let e : a ≡ a + 0 = omega arith in ap (λ m. m ∷ []) e
+range_more a (suc n) =
+    let e : (a + 1) + n ≡ a + suc n = omega arith in
+    ap (λ ms. a ∷ ms) (range_more (a + 1) n ∙ ap (λ m. range_with_len (a + 1) n ++ m ∷ []) e)
+
+-- one number more
+pub passing_more : (test : ℕ → Bool) (items items' : List ℕ) (n : ℕ) → items ≡ filter test (range_with_len 0 n) → items' ≡ items ++ filter test (n ∷ []) → items' ≡ filter test (range_with_len 0 (n + 1))
+passing_more test items items' n known more =
+    more ∙ ap (λ ns. ns ++ filter test (n ∷ [])) known
+    ∙ sym (filter-append test (range_with_len 0 n) (n ∷ []))
+    ∙ (let e : n ≡ 0 + n = omega arith in ap (λ m. filter test (range_with_len 0 n ++ m ∷ [])) e)
+    ∙ ap (filter test) (sym (range_more 0 n))
+    ∙ (let e : suc n ≡ n + 1 = omega arith in ap (λ m. filter test (range_with_len 0 m)) e)
+
+-- the live classes are the numbers of all classes that are live
+pub all_live : (g : Graph) → LawfulGraph g → filter (is_live g) (range_with_len 0 CLASSES) ≡ g.classes
+all_live g lawful =
+    same_numbers (filter (is_live g) (range_with_len 0 CLASSES)) g.classes
+    (AscendingNumbers-filter (is_live g) (range_with_len 0 CLASSES) (AscendingNumbers-range 0 CLASSES)) lawful.classes_ascend
+    (λ n. same_truth (has_number (filter (is_live g) (range_with_len 0 CLASSES)) n) (has_number g.classes n)
+    (λ listed. (has_number-filter (is_live g) (range_with_len 0 CLASSES) n listed).1)
+    (λ live.
+    let inside = each_number (λ m. m < CLASSES) g.classes lawful.classes_in_range n live in
+    has_number-kept (is_live g) (range_with_len 0 CLASSES) n (has_number-range 0 CLASSES n (omega arith) (omega arith)) live))
