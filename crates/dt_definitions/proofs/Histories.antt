@@ -1,5 +1,5 @@
 -- The program after every history is lawful.
-use Rattle.std.proofs.Common.{◌≡◌, List, [], ◌∷◌, Ok, Err, refl, subst}
+use Rattle.std.proofs.Common.{◌≡◌, List, [], ◌∷◌, ◌++◌, Ok, Err, refl, subst}
 use Rattle.std.specs.Result.{result_unwrap_or}
 use Rattle.dt_definitions.specs.Program.{Program, empty_program}
 use Rattle.dt_definitions.specs.Lawful.{Lawful, IsInRange}
@@ -26,3 +26,8 @@ module _ (law : (old : Program) (edit : Edit) (new : Program) → Lawful old →
 
   pub histories_are_lawful : Lawful empty_program → HistoriesAreLawful
   histories_are_lawful empty history r = lawful-after empty_program history empty r
+
+-- edits in range with one more
+pub in_range_push : (edits : List Edit) (last : Edit) → AreInRange edits → IsInRange last → AreInRange (edits ++ last ∷ [])
+in_range_push [] last h r = (r, tt)
+in_range_push (edit ∷ edits) last h r = (h.0, in_range_push edits last h.1 r)

@@ -1,10 +1,12 @@
 pub mod ClassOrder
+pub mod Searching
 pub mod RowOrder
-pub mod RowChanges
 pub mod DefinitionOrder
 pub mod Placing
 pub mod DefinedOnce
 pub mod DefinitionCounts
+pub mod Keys
+pub mod NamingLists
 pub mod Rows
 pub mod TableChanges
 pub mod Steps

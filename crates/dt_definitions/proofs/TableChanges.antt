@@ -1,19 +1,18 @@
 -- A table keeps what holds of it when a definition is put in or taken out.
-use Rattle.std.proofs.Common.{◌≡◌, ℕ, zero, suc, ◌+◌, ◌-◌, ◌<◌, ◌≤◌, Bool, true, false, cond, not, List, [], ◌∷◌, ◌++◌, length, get_or, set, take, drop, replicate, filter, find, option_map, Option, Some, None, is_some, is_none, IsTrue, slice_index, refl, sym, ap, ◌∙◌, arith, eqb}
+use Rattle.std.proofs.Common.{◌≡◌, ℕ, zero, suc, ◌+◌, ◌-◌, ◌<◌, ◌≤◌, Bool, true, false, cond, not, List, [], ◌∷◌, ◌++◌, length, get_or, set, filter, find, option_map, Option, Some, None, is_some, is_none, slice_index, refl, sym, ap, ◌∙◌, arith, eqb}
 use Rattle.std.specs.List.{list_any}
 use Rattle.std.proofs.lemmas.Bool.{eq-eqb}
 use Rattle.std.proofs.lemmas.Bool.Decides.{nat_tests}
-use Rattle.std.proofs.lemmas.List.{take_at, length-map, length-replicate, get_or-replicate}
-use Rattle.std.proofs.lemmas.List.Folds.{list_any_at}
+use Rattle.std.proofs.lemmas.List.{length-map}
 use Rattle.dt_graph.specs.Graph.{has_number}
-use Rattle.dt_graph.specs.declared.limits.TheConstants.{CLASSES}
 use Rattle.dt_selectors.specs.declared.limits.TheConstants.{SELECTORS}
-use Rattle.dt_definitions.specs.declared.limits.TheConstants.{DEFINITIONS}
 use Rattle.dt_definitions.specs.declared.defined.Defined.{Defined}
-use Rattle.dt_definitions.specs.Program.{Definition, is_definition, place_definition, body_of}
-use Rattle.dt_definitions.specs.DefinitionRows.{DefinitionRow, with_selector, definitions_from, rooms_of, body_in, naming_count, TableKept, NoneDefined, HaveSameDefinitions, HasRoomFor, shown_by}
-use Rattle.dt_definitions.proofs.DefinitionOrder.{place-ascends, filter-ascends, is_definition-equal}
-use Rattle.dt_definitions.proofs.DefinitionCounts.{count-place_new, count-place_again, count-filter, length_is_count, count-le_length, all_read_place, naming_reads_place}
+use Rattle.dt_definitions.specs.Program.{Definition, is_definition, place_definition, body_of, key_of, is_key_before, is_same_key}
+use Rattle.dt_definitions.specs.Naming.{NamingList, naming, place_key, without_key, keys_at, room_at, HasRoomIn, KeysStay, RoomsGrow}
+use Rattle.dt_definitions.specs.DefinitionRows.{DefinitionRow, with_selector, definitions_from, rooms_of, rooms_in, body_in, TableKept, NoneDefined, HaveSameDefinitions, RowRoomFor, HasNamingRoom, NoneShrinks}
+use Rattle.dt_definitions.proofs.DefinitionOrder.{key_order, place-ascends, filter-ascends, is_definition-equal}
+use Rattle.dt_definitions.proofs.DefinitionCounts.{count-place_new, count-place_again, count-filter, length_is_count, all_read_place}
+use Rattle.dt_definitions.proofs.Keys.{keys-place, keys-again, keys-without}
 use Rattle.dt_definitions.proofs.Rows.{none_from_empty, of_row, find_of}
 
 -- a row's body is the body among its selector's definitions
@@ -47,67 +46,65 @@ filtered_any p (d ∷ ds) = let r = filtered_any p ds in grind (arith, nat_tests
 pub length_with : (s : ℕ) (row : List Defined) → length (with_selector s row) ≡ length row
 length_with s row = length-map row _
 
--- what a write to the front of a slice leaves
-pub taken_back : (n : ℕ) (xs ys : List ℕ) → length xs ≡ n → take n (xs ++ drop (length xs) ys) ≡ xs
-taken_back n xs ys e = take_at xs (drop (length xs) ys) n e
-
-pub kept_same : (rows new : List DefinitionRow) (count : ℕ) (named : List ℕ)
-    → TableKept rows count named → length new ≡ SELECTORS
-    → definitions_from 0 new ≡ definitions_from 0 rows → TableKept new count named
-kept_same rows new count named k l e = record {
+pub kept_same : (rows new : List DefinitionRow) (count : ℕ) (lists : List NamingList)
+    → TableKept rows count lists → length new ≡ SELECTORS
+    → definitions_from 0 new ≡ definitions_from 0 rows → TableKept new count lists
+kept_same rows new count lists k l e = record {
   all_selectors = l;
   counted = k.counted ∙ ap length (sym e);
-  all_classes = k.all_classes;
-  names_counted = λ class c. k.names_counted class c ∙ ap (naming_count class) (sym e);
+  named = λ class c. k.named class c ∙ ap (λ ds. naming ds class) (sym e);
   ascends = rw e k.ascends;
 }
 
-module _ (rows new : List DefinitionRow) (count : ℕ) (named : List ℕ) (k : TableKept rows count named) (l : length new ≡ SELECTORS) where
+pub kept_lists : (rows : List DefinitionRow) (count : ℕ) (lists new : List NamingList)
+    → TableKept rows count lists → KeysStay lists new → TableKept rows count new
+kept_lists rows count lists new k stay = record {
+  all_selectors = k.all_selectors;
+  counted = k.counted;
+  named = λ class c. stay class ∙ k.named class c;
+  ascends = k.ascends;
+}
+
+module _ (rows new : List DefinitionRow) (count : ℕ) (lists : List NamingList) (k : TableKept rows count lists) (l : length new ≡ SELECTORS) where
   pub kept_put_again : (d : Definition)
       → definitions_from 0 new ≡ place_definition d (definitions_from 0 rows)
-      → false ≡ not (list_any (is_definition d.selector d.classes) (definitions_from 0 rows))
-      → TableKept new count named
-  kept_put_again d e h =
+      → list_any (is_definition d.selector d.classes) (definitions_from 0 rows) ≡ true
+      → TableKept new count lists
+  kept_put_again d e there =
       let ds = definitions_from 0 rows in
-      let there : list_any (is_definition d.selector d.classes) ds ≡ true = grind arith in
       record {
         all_selectors = l;
         counted = k.counted ∙ length_is_count ds
             ∙ sym (count-place_again (λ _. true) d ds all_read_place k.ascends there)
             ∙ sym (length_is_count (place_definition d ds)) ∙ ap length (sym e);
-        all_classes = k.all_classes;
-        names_counted = λ class c. k.names_counted class c
-            ∙ sym (count-place_again (λ d. has_number d.classes class) d ds (naming_reads_place class) k.ascends there)
-            ∙ ap (naming_count class) (sym e);
+        named = λ class c. k.named class c
+            ∙ sym (keys-again key_of is_key_before is_same_key key_order (λ key. has_number key.classes class) d ds k.ascends there)
+            ∙ ap (λ ds. naming ds class) (sym e);
         ascends = rw e (place-ascends d ds k.ascends);
       }
 
-  pub kept_put_new : (d : Definition) (counts : List ℕ)
+  pub kept_put_new : (d : Definition) (named : List NamingList)
       → definitions_from 0 new ≡ place_definition d (definitions_from 0 rows)
-      → true ≡ not (list_any (is_definition d.selector d.classes) (definitions_from 0 rows))
-      → length counts ≡ length named
-      → ((class : ℕ) → slice_index counts class ≡ slice_index named class + cond (has_number d.classes class) 1 0)
-      → TableKept new (count + 1) counts
-  kept_put_new d counts e h m g =
+      → list_any (is_definition d.selector d.classes) (definitions_from 0 rows) ≡ false
+      → ((class : ℕ) → keys_at named class ≡ cond (has_number d.classes class) (place_key (key_of d) (keys_at lists class)) (keys_at lists class))
+      → TableKept new (count + 1) named
+  kept_put_new d named e absent g =
       let ds = definitions_from 0 rows in
-      let absent : list_any (is_definition d.selector d.classes) ds ≡ false = grind arith in
       record {
         all_selectors = l;
         counted = rw (e, k.counted, length_is_count (place_definition d ds), length_is_count ds)
             (sym (count-place_new (λ _. true) d ds absent));
-        all_classes = m ∙ k.all_classes;
-        names_counted = λ class c. g class ∙ rw (k.names_counted class c, e)
-            (sym (count-place_new (λ d. has_number d.classes class) d ds absent));
+        named = λ class c. g class ∙ rw (k.named class c, e)
+            (sym (keys-place key_of is_key_before is_same_key key_order (λ key. has_number key.classes class) d ds k.ascends));
         ascends = rw e (place-ascends d ds k.ascends);
       }
 
-  pub kept_remove : (d : Definition) (counts : List ℕ)
+  pub kept_remove : (d : Definition) (named : List NamingList)
       → definitions_from 0 new ≡ filter (λ e. not (is_definition d.selector d.classes e)) (definitions_from 0 rows)
       → list_any (is_definition d.selector d.classes) (definitions_from 0 rows) ≡ true
-      → length counts ≡ length named
-      → ((class : ℕ) → slice_index counts class + cond (has_number d.classes class) 1 0 ≡ slice_index named class)
-      → TableKept new (count - 1) counts
-  kept_remove d counts e there m g =
+      → ((class : ℕ) → keys_at named class ≡ cond (has_number d.classes class) (without_key (key_of d) (keys_at lists class)) (keys_at lists class))
+      → TableKept new (count - 1) named
+  kept_remove d named e there g =
       let ds = definitions_from 0 rows in
       let rest = filter (λ e. not (is_definition d.selector d.classes e)) ds in
       record {
@@ -119,44 +116,29 @@ module _ (rows new : List DefinitionRow) (count : ℕ) (named : List ℕ) (k : T
           length_is_count ds,
           count-filter (λ _. true) d ds all_read_place k.ascends there,
         ));
-        all_classes = m ∙ k.all_classes;
-        names_counted = λ class c. rw e (omega (
-          arith,
-          g class,
-          k.names_counted class c,
-          count-filter (λ d. has_number d.classes class) d ds (naming_reads_place class) k.ascends there,
-        ));
+        named = λ class c. g class ∙ rw (k.named class c, e)
+            (sym (keys-without key_of is_key_before is_same_key key_order (λ key. has_number key.classes class) (key_of d) ds));
         ascends = rw e (filter-ascends (λ e. not (is_definition d.selector d.classes e)) ds k.ascends);
       }
 
-  -- a definition that is there names its classes
-  pub counted_there : (d : Definition) (class : ℕ)
-      → list_any (is_definition d.selector d.classes) (definitions_from 0 rows) ≡ true
-      → class < CLASSES → IsTrue (has_number d.classes class) → 0 < slice_index named class
-  counted_there d class there c h =
-      let n = count-filter (λ d. has_number d.classes class) d (definitions_from 0 rows) (naming_reads_place class) k.ascends there in
-      let n' = rw h at n in
-      omega (arith, n', k.names_counted class c)
+-- the rooms of the lists
+rooms-at : (lists : List NamingList) (class : ℕ) → slice_index (rooms_in lists) class ≡ room_at lists class
+rooms-at [] class = refl
+rooms-at (list ∷ lists) zero = refl
+rooms-at (list ∷ lists) (suc class) = rooms-at lists class
 
--- room for one more count
-pub counts_small : (rows : List DefinitionRow) (count : ℕ) (named : List ℕ) → TableKept rows count named
-    → length (definitions_from 0 rows) ≤ DEFINITIONS → (class : ℕ) → class < CLASSES → slice_index named class < 2147483648
-counts_small rows count named k l class c =
-    omega (arith, k.names_counted class c, count-le_length (λ d. has_number d.classes class) (definitions_from 0 rows), l)
+pub none_shrinks : (old new : List NamingList) → RoomsGrow old new → NoneShrinks (rooms_in old) (rooms_in new)
+none_shrinks old new grow = λ class. let g = grow class in omega (arith, rooms-at old class, rooms-at new class, g)
 
--- a class that isn't among the earlier ones was counted
-pub one_left : (named initial : ℕ) (classes : List ℕ) (place x n : ℕ)
-    → n ≡ x → x ≡ get_or classes place x → place < length classes
-    → false ≡ list_any (λ y. eqb y x) (take place classes)
-    → named + cond (has_number (take place classes) n) 1 0 ≡ initial
-    → (IsTrue (has_number classes n) → 0 < initial)
-    → 1 ≤ named
-one_left named initial classes place x n e r l a i p =
-    let there : has_number classes n ≡ true =
-    list_any_at (λ m. eqb m n) classes place x l (eq-eqb (get_or classes place x) n (sym r ∙ sym e)) in
-    let absent : has_number (take place classes) n ≡ false = rw e (sym a) in
-    let i' = rw absent at i in
-    omega (arith, p there, i')
+pub room_in_lists : (rows : List DefinitionRow) (count : ℕ) (lists : List NamingList) (classes : List ℕ) → TableKept rows count lists
+    → HasNamingRoom (definitions_from 0 rows) (rooms_in lists) classes → HasRoomIn lists classes
+room_in_lists rows count lists classes k room = λ class small there.
+    let h = room class small there in omega (arith, ap length (k.named class small), rooms-at lists class, h)
+
+pub room_of_lists : (rows : List DefinitionRow) (count : ℕ) (lists : List NamingList) (classes : List ℕ) → TableKept rows count lists
+    → HasRoomIn lists classes → HasNamingRoom (definitions_from 0 rows) (rooms_in lists) classes
+room_of_lists rows count lists classes k room = λ class small there.
+    let h = room class small there in omega (arith, ap length (k.named class small), rooms-at lists class, h)
 
 -- the rooms after a row's
 pub room_grows : (rows : List DefinitionRow) (i : ℕ) (r new : DefinitionRow)
@@ -174,11 +156,11 @@ room_same [] i r new g h = refl
 room_same (row ∷ rows) zero r new g h = let e = ap (λ (r : DefinitionRow). r.room) g in let q : new.room ≡ row.room = h ∙ e in ap (λ n. n ∷ rooms_of rows) q
 room_same (row ∷ rows) (suc i) r new g h = ap (λ ns. row.room ∷ ns) (room_same rows i r new g h)
 
-pub room_at : (rows : List DefinitionRow) (i : ℕ) (r : DefinitionRow)
+pub row_room_at : (rows : List DefinitionRow) (i : ℕ) (r : DefinitionRow)
     → i < length rows → r ≡ get_or rows i r → slice_index (rooms_of rows) i ≡ r.room
-room_at [] i r l g = absurd (omega arith)
-room_at (row ∷ rows) zero r l g = ap (λ (r : DefinitionRow). r.room) (sym g)
-room_at (row ∷ rows) (suc i) r l g = room_at rows i r (omega arith) g
+row_room_at [] i r l g = absurd (omega arith)
+row_room_at (row ∷ rows) zero r l g = ap (λ (r : DefinitionRow). r.room) (sym g)
+row_room_at (row ∷ rows) (suc i) r l g = row_room_at rows i r (omega arith) g
 
 -- a row with the same definitions
 pub same_row : (rows : List DefinitionRow) (k i : ℕ) (r new : DefinitionRow)
@@ -189,13 +171,13 @@ same_row (row ∷ rows) k zero r new g h =
     ap (λ ds. with_selector k ds ++ definitions_from (k + 1) rows) e
 same_row (row ∷ rows) k (suc i) r new g h = ap (λ ds. with_selector k row.defined ++ ds) (same_row rows (k + 1) i r new g h)
 
-pub kept_empty : (rows : List DefinitionRow) → length rows ≡ SELECTORS → NoneDefined rows → TableKept rows 0 (replicate CLASSES 0)
-kept_empty rows l n =
+pub kept_empty : (rows : List DefinitionRow) (lists : List NamingList) → length rows ≡ SELECTORS → NoneDefined rows
+    → ((class : ℕ) → keys_at lists class ≡ []) → TableKept rows 0 lists
+kept_empty rows lists l n none =
     let e = none_from_empty 0 rows n in record {
       all_selectors = l;
       counted = ap length (sym e);
-      all_classes = length-replicate {A = ℕ} CLASSES 0;
-      names_counted = λ class c. get_or-replicate CLASSES class 0 0 c ∙ ap (naming_count class) (sym e);
+      named = λ class c. none class ∙ ap (λ ds. naming ds class) (sym e);
       ascends = rw e tt;
     }
 
@@ -221,19 +203,19 @@ same_definitions k (r ∷ rows) (n ∷ news) h = let rest = same_definitions (k 
 
 -- a row that has lost a definition has room for it, and so has the table
 pub room_for : (rows : List DefinitionRow) (i s : ℕ) (cs : List ℕ) (r : DefinitionRow)
-    → s ≡ i → i < length rows → r ≡ get_or rows i r → length r.defined < r.room → HasRoomFor (shown_by rows) s cs
+    → s ≡ i → i < length rows → r ≡ get_or rows i r → length r.defined < r.room → RowRoomFor (definitions_from 0 rows) (rooms_of rows) s cs
 room_for rows i s cs r e l g room = λ _.
     let of = ap length (of_row rows 0 i s r (omega arith) l g) in
-    let at = ap (slice_index (rooms_of rows)) e ∙ room_at rows i r l g in
+    let at = ap (slice_index (rooms_of rows)) e ∙ row_room_at rows i r l g in
     rw at (omega (arith, of, length_with s r.defined))
 
 -- and a table that has room for a definition has it in the row
 pub room_in : (rows : List DefinitionRow) (i s : ℕ) (cs : List ℕ) (r : DefinitionRow)
-    → s ≡ i → i < length rows → r ≡ get_or rows i r → HasRoomFor (shown_by rows) s cs
+    → s ≡ i → i < length rows → r ≡ get_or rows i r → RowRoomFor (definitions_from 0 rows) (rooms_of rows) s cs
     → body_in r.defined cs ≡ None → length r.defined < r.room
 room_in rows i s cs r e l g has none =
     let of = ap length (of_row rows 0 i s r (omega arith) l g) in
-    let at = ap (slice_index (rooms_of rows)) e ∙ room_at rows i r l g in
+    let at = ap (slice_index (rooms_of rows)) e ∙ row_room_at rows i r l g in
     let absent = sym (some_body s cs (definitions_from 0 rows)) ∙ ap is_some (sym (body_from_rows rows i s cs r e l g) ∙ none) in
     let room = rw at at (has absent) in
     omega (arith, of, length_with s r.defined, room)

@@ -1,11 +1,14 @@
 -- How the definitions are kept: a row for each selector, in ascending order of class lists.
-use Rattle.std.specs.Prelude.{◌≡◌, ◌==◌, ℕ, false, ◌≤◌, suc, ◌+◌, ◌<◌, if◌then◌else◌, IsTrue, List, [], ◌∷◌, ◌++◌, length, Option, None, IsSome, Result, Ok, Err, map, filter, find, slice_index}
-use Rattle.std.specs.List.{HoldsAt, list_any}
+use Rattle.std.specs.Prelude.{◌≡◌, ◌==◌, ℕ, Bool, false, ◌≤◌, ◌+◌, ◌<◌, IsTrue, List, [], ◌∷◌, ◌++◌, length, Option, Result, map, filter, slice_index}
+use Rattle.std.specs.List.{list_any}
 use Rattle.std.specs.Option.{option_map}
 use Rattle.dt_graph.specs.Graph.{has_number}
+use Rattle.dt_graph.specs.InOrder.{Ascends, find_at}
 use Rattle.dt_graph.specs.declared.limits.TheConstants.{CLASSES}
 use Rattle.dt_selectors.specs.declared.limits.TheConstants.{SELECTORS}
 use Rattle.dt_definitions.specs.Lawful.{AscendingDefinitions}
+use Rattle.dt_definitions.specs.Search.{Searched}
+use Rattle.dt_definitions.specs.Naming.{NamingList, naming, keys_at}
 use Rattle.dt_definitions.specs.Program.{Definition, same_classes, are_classes_before, is_definition}
 use Rattle.dt_definitions.specs.declared.defined.Defined.{Defined}
 
@@ -14,10 +17,15 @@ pub record DefinitionRow : Type 0 where
   pub defined : List Defined
   pub room : ℕ
 
--- the definitions of all selectors, and for each selector how many of its definitions there is room for
+-- for how many definitions there is room: of each selector, and that name each class
+pub record Rooms : Type 0 where
+  pub of_selectors : List ℕ
+  pub of_classes : List ℕ
+
+-- the definitions of all selectors, and for how many there is room
 pub record Definitions : Type 0 where
   pub all : List Definition
-  pub rooms : List ℕ
+  pub rooms : Rooms
 
 -- the definition, with its selector put back
 abbrev pub definition_of : ℕ → Defined → Definition
@@ -34,45 +42,60 @@ definitions_from selector (row ∷ rows) = with_selector selector row.defined ++
 abbrev pub rooms_of : List DefinitionRow → List ℕ
 rooms_of rows = map (λ row. row.room) rows
 
--- what the rows of all selectors, from the first, stand for
-abbrev pub shown_by : List DefinitionRow → Definitions
-shown_by rows = record { all = definitions_from 0 rows; rooms = rooms_of rows }
+abbrev pub rooms_in : List NamingList → List ℕ
+rooms_in lists = map (λ list. list.room) lists
 
--- the classes stand before those of every definition of the row
-abbrev pub StandsBefore : List ℕ → List Defined → Type 0
-StandsBefore classes [] = Unit {0}
-StandsBefore classes (d ∷ row) = IsTrue (are_classes_before classes d.classes) × StandsBefore classes row
+-- what the rows of all selectors, from the first, and the lists of all classes stand for
+abbrev pub shown_by : List DefinitionRow → List NamingList → Definitions
+shown_by rows lists = record {
+  all = definitions_from 0 rows;
+  rooms = record { of_selectors = rooms_of rows; of_classes = rooms_in lists };
+}
 
--- each definition of the row stands before those that follow
+-- a row is searched by its classes
+abbrev pub classes_at : Defined → List ℕ
+classes_at d = d.classes
+
+abbrev pub are_same : List ℕ → List ℕ → Bool
+are_same wanted classes = same_classes classes wanted
+
+-- each definition of the row stands before the next
 abbrev pub RowAscends : List Defined → Type 0
-RowAscends [] = Unit {0}
-RowAscends (d ∷ row) = StandsBefore d.classes row × RowAscends row
-
--- the first place of the row, from 0, whose classes don't stand before these
-abbrev pub first_place : List ℕ → List Defined → ℕ
-first_place classes [] = 0
-first_place classes (d ∷ row) = if are_classes_before d.classes classes then suc (first_place classes row) else 0
+RowAscends row = Ascends classes_at are_classes_before row
 
 -- the body at these classes, if they are defined in the row
 abbrev pub body_in : List Defined → List ℕ → Option ℕ
-body_in row classes = option_map (λ d. d.body) (find (λ d. same_classes d.classes classes) row)
+body_in row classes = option_map (λ d. d.body) (find_at classes_at are_same classes row)
 
--- what a search for the classes answers: their place, or else the place at which they would stand
-abbrev pub Searched : List Defined → List ℕ → Result ℕ ℕ → Type 0
-Searched row classes (Ok place) =
-    (place ≡ first_place classes row) × (place < length row)
-    × HoldsAt (λ d. IsTrue (same_classes d.classes classes)) row place × IsSome (body_in row classes)
-Searched row classes (Err place) = (place ≡ first_place classes row) × (body_in row classes ≡ None)
+-- what a search of the row for the classes answers
+abbrev pub RowSearched : List Defined → List ℕ → Result ℕ ℕ → Type 0
+RowSearched row classes answer = Searched classes_at are_classes_before are_same classes row answer
 
--- the selector is defined at these classes already, or its row has room for one more definition
+-- the selector's row has room for one more definition
+abbrev pub HasRowRoom : List Definition → List ℕ → ℕ → Type 0
+HasRowRoom all rooms selector = length (filter (λ d. d.selector == selector) all) < slice_index rooms selector
+
+-- the selector is defined at these classes already, or its row has room
+abbrev pub RowRoomFor : List Definition → List ℕ → ℕ → List ℕ → Type 0
+RowRoomFor all rooms selector classes = list_any (is_definition selector classes) all ≡ false → HasRowRoom all rooms selector
+
+-- the lists of these classes have room for one more definition
+abbrev pub HasNamingRoom : List Definition → List ℕ → List ℕ → Type 0
+HasNamingRoom all rooms classes = (class : ℕ) → class < CLASSES → IsTrue (has_number classes class)
+    → length (naming all class) < slice_index rooms class
+
+-- the selector is defined at these classes already, or there is room for it
 abbrev pub HasRoomFor : Definitions → ℕ → List ℕ → Type 0
-HasRoomFor definitions selector classes =
-    list_any (is_definition selector classes) definitions.all ≡ false
-    → length (filter (λ d. d.selector == selector) definitions.all) < slice_index definitions.rooms selector
+HasRoomFor definitions selector classes = list_any (is_definition selector classes) definitions.all ≡ false
+    → HasRowRoom definitions.all definitions.rooms.of_selectors selector
+    × HasNamingRoom definitions.all definitions.rooms.of_classes classes
 
--- each row has as much room as before, or more
-abbrev pub RoomStays : List ℕ → List ℕ → Type 0
-RoomStays old new = (selector : ℕ) → slice_index old selector ≤ slice_index new selector
+-- each has as much room as before, or more
+abbrev pub NoneShrinks : List ℕ → List ℕ → Type 0
+NoneShrinks old new = (place : ℕ) → slice_index old place ≤ slice_index new place
+
+abbrev pub RoomStays : Rooms → Rooms → Type 0
+RoomStays old new = NoneShrinks old.of_selectors new.of_selectors × NoneShrinks old.of_classes new.of_classes
 
 -- no row has a definition
 abbrev pub NoneDefined : List DefinitionRow → Type 0
@@ -86,14 +109,9 @@ HaveSameDefinitions [] (new ∷ news) = ⊥
 HaveSameDefinitions (row ∷ rows) [] = ⊥
 HaveSameDefinitions (row ∷ rows) (new ∷ news) = (new.defined ≡ row.defined) × HaveSameDefinitions rows news
 
--- how many definitions name the class
-abbrev pub naming_count : ℕ → List Definition → ℕ
-naming_count class definitions = length (filter (λ d. has_number d.classes class) definitions)
-
--- what holds of a table: a row for each selector; the number of definitions; for each class how many name it
-pub record TableKept (rows : List DefinitionRow) (count : ℕ) (named : List ℕ) : Type 0 where
+-- what holds of a table: a row for each selector; the number of definitions; for each class those that name it
+pub record TableKept (rows : List DefinitionRow) (count : ℕ) (lists : List NamingList) : Type 0 where
   pub all_selectors : length rows ≡ SELECTORS
   pub counted : count ≡ length (definitions_from 0 rows)
-  pub all_classes : length named ≡ CLASSES
-  pub names_counted : (class : ℕ) → class < CLASSES → slice_index named class ≡ naming_count class (definitions_from 0 rows)
+  pub named : (class : ℕ) → class < CLASSES → keys_at lists class ≡ naming (definitions_from 0 rows) class
   pub ascends : AscendingDefinitions (definitions_from 0 rows)

@@ -8,12 +8,15 @@ pub mod Lawful
 pub mod Laws
 pub mod Memory
 pub mod MemoryLaws
+pub mod Naming
 pub mod OrderExamples
 pub mod Parts
 pub mod Place
 pub mod Program
 pub mod ProgramLaws
 pub mod RefusalExamples
+pub mod Refusals
+pub mod Search
 pub mod SecondProgram
 pub mod Step
 pub mod TupleForm

@@ -1,7 +1,6 @@
 -- How the second of two programs is kept.
 use Rattle.std.specs.Prelude.{◌≡◌, Ok, reverse}
 use Rattle.dt_definitions.specs.Program.{Program}
-use Rattle.dt_definitions.specs.Lawful.{Lawful}
 use Rattle.dt_definitions.specs.Step.{step_batch}
 use Rattle.dt_definitions.specs.Undo.{LeadsBack}
 use Rattle.dt_definitions.specs.declared.two_programs.Second.{Second}

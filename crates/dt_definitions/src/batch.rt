@@ -1,5 +1,6 @@
 ghost use Rattle.std.specs.Prelude.{◌≡◌, ◌^◌, ◌<◌, ◌≤◌, ◌==◌, [], ◌∷◌, ◌++◌, length, IfOk, IfErr, OnOk, OnErr};
 ghost use Rattle.std.specs.Option.{option_copied};
+ghost use Rattle.dt_definitions.specs.Laws.{AreInRange};
 ghost use Rattle.dt_definitions.specs.Place.{at_place};
 
 use crate::edit::Edit;
@@ -68,6 +69,17 @@ impl Batch {
     {
         let place = place.checked_sub(1)?;
         self.edits.get(place as usize)
+    }
+
+    /// What holds of every batch: the numbers of its edits are in range, and there are at most 2^31 of them. It does
+    /// nothing: a caller whose reasoning needs this calls it.
+    pub fn law(&self)
+        ensures in_range { AreInRange self.now }
+        ensures few { length self.now ≤ 2 ^ 31 }
+    {
+        for edit in &self.edits {
+            edit.law();
+        }
     }
 
     /// The edits.

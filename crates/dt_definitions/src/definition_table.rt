@@ -1,14 +1,17 @@
-ghost use Rattle.std.specs.Prelude.{◌≡◌, ◌==◌, ℕ, ◌+◌, ◌^◌, ◌<◌, ◌≤◌, [], length, filter, not, if◌then◌else◌, slice_index, IsTrue, IsOk, IfOk, OnOk, OnErr};
+ghost use Rattle.std.specs.Prelude.{◌≡◌, ◌==◌, ℕ, ◌≤◌, [], length, filter, not, false, true, IsTrue, IsOk, IfOk, OnOk, OnErr};
 ghost use Rattle.std.specs.List.{list_any};
 ghost use Rattle.dt_graph.specs.Graph.{has_number};
 ghost use Rattle.dt_definitions.specs.declared.limits.TheConstants.{DEFINITIONS};
 ghost use Rattle.dt_definitions.specs.Program.{is_definition, place_definition, body_of};
-ghost use Rattle.dt_definitions.specs.DefinitionRows.{with_selector, definitions_from, rooms_of, shown_by, HasRoomFor, RoomStays, NoneDefined, HaveSameDefinitions};
+ghost use Rattle.dt_definitions.specs.Naming.{naming};
+ghost use Rattle.dt_definitions.specs.DefinitionRows.{with_selector, definitions_from, rooms_of, HasRoomFor, RowRoomFor, RoomStays, NoneShrinks, NoneDefined, HaveSameDefinitions};
 
 use crate::defined::Defined;
+use crate::definition_key::DefinitionKey;
+use crate::naming_index::NamingIndex;
 use crate::row::Row;
 use crate::tuple::Tuple;
-use dt_graph::{CLASSES, ClassNo, NoMemory};
+use dt_graph::{ClassNo, NoMemory};
 use dt_selectors::{BodyNo, SELECTORS, SelNo};
 use std::alloc::Global;
 use std::marker::Model;
@@ -18,8 +21,7 @@ use std::marker::Model;
 pub(crate) struct DefinitionTable {
     rows: Vec<Row>,
     count: u32,
-    // For each class, how many definitions name it.
-    named: Vec<u32>,
+    index: NamingIndex,
 }
 
 impl Model for DefinitionTable {
@@ -27,9 +29,9 @@ impl Model for DefinitionTable {
 
     ghost Value = { Definitions };
 
-    ghost view = { λ t. shown_by t.rows.items };
+    ghost view = { λ t. shown_by t.rows.items t.index };
 
-    ghost invariant = { λ t. TableKept t.rows.items t.count t.named.items };
+    ghost invariant = { λ t. TableKept t.rows.items t.count t.index };
 }
 
 /// A row for each selector, none with a definition.
@@ -41,34 +43,6 @@ fn empty_rows(alloc: Global) -> Result<Vec<Row>, NoMemory>
         rows.push(Row::new(alloc))?;
     }
     Ok(rows)
-}
-
-/// One more for each class of the list, however often it stands there.
-fn count_in(named: &mut [u32], classes: &[ClassNo])
-    requires all_classes { length named.old ≡ CLASSES }
-    requires room { (class : ℕ) → class < CLASSES → slice_index named.old class < 2 ^ 31 }
-    ensures { (class : ℕ) → slice_index named.new class
-        ≡ slice_index named.old class + (if has_number classes.now class then 1 else 0) }
-{
-    for (place, class) in classes.iter().enumerate() {
-        if !classes[..place].contains(class) {
-            named[class.number() as usize] += 1;
-        }
-    }
-}
-
-/// One less for each class of the list, however often it stands there.
-fn count_out(named: &mut [u32], classes: &[ClassNo])
-    requires all_classes { length named.old ≡ CLASSES }
-    requires counted { (class : ℕ) → class < CLASSES → IsTrue (has_number classes.now class) → 0 < slice_index named.old class }
-    ensures { (class : ℕ) → slice_index named.new class + (if has_number classes.now class then 1 else 0)
-        ≡ slice_index named.old class }
-{
-    for (place, class) in classes.iter().enumerate() {
-        if !classes[..place].contains(class) {
-            named[class.number() as usize] -= 1;
-        }
-    }
 }
 
 /// Puts the definition into the row of its selector; answers whether it was new.
@@ -84,8 +58,8 @@ fn put_in(
     ensures is_new { IfOk result (λ is_new. is_new ≡ not (list_any (is_definition selector classes) (definitions_from 0 rows.old.items))) }
     ensures err { OnErr result (definitions_from 0 rows.new.items ≡ definitions_from 0 rows.old.items) }
     ensures all_selectors { length rows.new.items ≡ SELECTORS }
-    ensures room_stays { RoomStays (rooms_of rows.old.items) (rooms_of rows.new.items) }
-    ensures succeeds { HasRoomFor (shown_by rows.old.items) selector classes → IsOk result }
+    ensures room_stays { NoneShrinks (rooms_of rows.old.items) (rooms_of rows.new.items) }
+    ensures succeeds { RowRoomFor (definitions_from 0 rows.old.items) (rooms_of rows.old.items) selector classes → IsOk result }
 {
     rows[selector.number() as usize].put(classes, body)
 }
@@ -98,7 +72,7 @@ fn remove_from(rows: &mut Vec<Row>, selector: SelNo, classes: &[ClassNo]) -> boo
     ensures was_there { result ≡ list_any (is_definition selector classes.now) (definitions_from 0 rows.old.items) }
     ensures all_selectors { length rows.new.items ≡ SELECTORS }
     ensures room_stays { rooms_of rows.new.items ≡ rooms_of rows.old.items }
-    ensures room_left { IsTrue result → HasRoomFor (shown_by rows.new.items) selector classes.now }
+    ensures room_left { IsTrue result → RowRoomFor (definitions_from 0 rows.new.items) (rooms_of rows.new.items) selector classes.now }
 {
     rows[selector.number() as usize].remove(classes)
 }
@@ -121,11 +95,11 @@ impl DefinitionTable {
         ensures { IfOk result (λ table. table.all ≡ []) }
     {
         let rows = empty_rows(alloc)?;
-        let named = vec![in alloc; 0; CLASSES as usize]?;
+        let index = NamingIndex::new(alloc)?;
         Ok(DefinitionTable {
             rows,
             count: 0,
-            named,
+            index,
         })
     }
 
@@ -150,11 +124,18 @@ impl DefinitionTable {
         !self.of(selector).is_empty()
     }
 
+    /// Where the definitions that name the class stand, in ascending order.
+    pub(crate) fn naming(&self, class: ClassNo) -> &[DefinitionKey]
+        ensures { result.now ≡ naming self.now.all class }
+    {
+        self.index.of(class)
+    }
+
     /// Whether a definition names the class.
     pub(crate) fn names(&self, class: ClassNo) -> bool
         ensures { result ≡ list_any (λ d. has_number d.classes class) self.now.all }
     {
-        self.named[class.number() as usize] > 0
+        !self.naming(class).is_empty()
     }
 
     /// The body of the selector at these classes; `None` exactly where they aren't defined.
@@ -171,6 +152,37 @@ impl DefinitionTable {
         self.body(selector, classes).is_some()
     }
 
+    /// Gives the selector this body in place of the one that it has at these classes.
+    fn put_again(&mut self, selector: SelNo, classes: Tuple, body: BodyNo) -> Result<(), NoMemory>
+        requires { IsTrue (list_any (is_definition selector classes) self.old.all) }
+        ensures ok { OnOk result (self.new.all
+            ≡ place_definition (record { selector = selector; classes = classes; body = body }) self.old.all) }
+        ensures err { OnErr result (self.new.all ≡ self.old.all) }
+        ensures room_stays { RoomStays self.old.rooms self.new.rooms }
+        ensures succeeds { IsOk result }
+    {
+        let _is_new = put_in(&mut self.rows, selector, classes, body)?;
+        Ok(())
+    }
+
+    /// Gives the selector this body at these classes, where it has none.
+    fn put_new(&mut self, selector: SelNo, classes: Tuple, body: BodyNo) -> Result<(), NoMemory>
+        requires absent { list_any (is_definition selector classes) self.old.all ≡ false }
+        requires few { length self.old.all ≤ DEFINITIONS }
+        ensures ok { OnOk result (self.new.all
+            ≡ place_definition (record { selector = selector; classes = classes; body = body }) self.old.all) }
+        ensures err { OnErr result (self.new.all ≡ self.old.all) }
+        ensures room_stays { RoomStays self.old.rooms self.new.rooms }
+        ensures succeeds { HasRoomFor self.old selector classes → IsOk result }
+    {
+        // All the room is taken before the first change.
+        self.index.reserve(classes.classes())?;
+        let _is_new = put_in(&mut self.rows, selector, classes, body)?;
+        self.count += 1;
+        self.index.insert(&DefinitionKey { selector, classes });
+        Ok(())
+    }
+
     /// Gives the selector this body at these classes, in place of one that it has there.
     pub(crate) fn put(
         &mut self,
@@ -185,23 +197,23 @@ impl DefinitionTable {
         ensures room_stays { RoomStays self.old.rooms self.new.rooms }
         ensures succeeds { HasRoomFor self.old selector classes → IsOk result }
     {
-        if put_in(&mut self.rows, selector, classes, body)? {
-            self.count += 1;
-            count_in(&mut self.named, classes.classes());
+        if self.has(selector, classes.classes()) {
+            self.put_again(selector, classes, body)
+        } else {
+            self.put_new(selector, classes, body)
         }
-        Ok(())
     }
 
     /// Takes the selector's definition at these classes away, if it is there.
     pub(crate) fn remove(&mut self, selector: SelNo, classes: &[ClassNo])
         ensures after { self.new.all ≡ filter (λ d. not (is_definition selector classes.now d)) self.old.all }
-        ensures room_stays { self.new.rooms ≡ self.old.rooms }
+        ensures room_stays { RoomStays self.old.rooms self.new.rooms }
         ensures room_left { IsTrue (list_any (is_definition selector classes.now) self.old.all)
             → HasRoomFor self.new selector classes.now }
     {
         if remove_from(&mut self.rows, selector, classes) {
             self.count -= 1;
-            count_out(&mut self.named, classes);
+            self.index.remove(selector, classes);
         }
     }
 
@@ -210,11 +222,11 @@ impl DefinitionTable {
         ensures { IfOk result (λ table. table.all ≡ self.now.all) }
     {
         let rows = copy_rows(&self.rows)?;
-        let named = Vec::from_slice(*self.named.allocator(), &self.named)?;
+        let index = self.index.copy()?;
         Ok(DefinitionTable {
             rows,
             count: self.count,
-            named,
+            index,
         })
     }
 }

@@ -6,16 +6,21 @@ mod apply_batch;
 mod batch;
 mod causes;
 mod defined;
+mod definition_key;
 mod definition_table;
 mod edit;
 mod kept;
 mod law;
 mod laws;
 mod limits;
+mod naming;
+mod naming_index;
 mod parents;
 mod parts;
 mod program;
+mod refusal;
 mod row;
+mod sharing;
 mod tuple;
 mod two_programs;
 mod undo;
@@ -27,8 +32,11 @@ pub use answer_law::{
 };
 pub use batch::Batch;
 pub use defined::Defined;
-pub use dt_graph::{CLASSES, ClassGraph, ClassNo, NoMemory, PARENTS};
-pub use dt_selectors::{Arity, BODIES, BodyNo, SELECTORS, SelNo};
+pub use definition_key::DefinitionKey;
+pub use dt_graph::{CLASSES, ClassGraph, ClassNo, GraphFault, NoMemory, PARENTS};
+pub use dt_selectors::{
+    Arity, BODIES, BodyNo, NAMES, NameFault, Names, SELECTORS, SelNo, SelectorFault,
+};
 pub use edit::Edit;
 pub use law::{
     batches_are_their_edits, definitions_stand_alone, histories_are_lawful, steps_keep_law,

@@ -3,7 +3,8 @@ ghost use Rattle.std.specs.Option.{option_map};
 ghost use Rattle.dt_graph.specs.Graph.{is_live};
 ghost use Rattle.dt_graph.specs.Below.{HasNoCycle};
 ghost use Rattle.dt_graph.specs.declared.limits.TheConstants.{CLASSES};
-ghost use Rattle.dt_definitions.specs.Program.{empty_program, arity_of, definitions_of, is_definition};
+ghost use Rattle.dt_definitions.specs.Program.{empty_program, arity_of, definitions_of, is_definition, body_of};
+ghost use Rattle.dt_definitions.specs.Naming.{naming};
 ghost use Rattle.dt_definitions.specs.Lawful.{Lawful};
 ghost use Rattle.dt_definitions.specs.DefinitionRows.{with_selector};
 ghost use Rattle.dt_definitions.specs.Place.{at_place};
@@ -13,6 +14,7 @@ ghost use Rattle.dt_definitions.specs.Memory.{may_want_memory, batch_may_want_me
 
 use crate::batch::Batch;
 use crate::defined::Defined;
+use crate::definition_key::DefinitionKey;
 use crate::definition_table::DefinitionTable;
 use crate::edit::Edit;
 use crate::kept::Kept;
@@ -115,6 +117,21 @@ impl Program {
         ensures { with_selector selector result.now ≡ definitions_of self.now selector }
     {
         self.parts.definitions.of(selector)
+    }
+
+    /// The body of the selector at these classes; `None` exactly where it isn't defined there. It costs a search of the
+    /// selector's definitions by halves.
+    pub fn body(&self, selector: SelNo, classes: &[ClassNo]) -> Option<BodyNo>
+        ensures { result ≡ body_of self.now.definitions selector classes.now }
+    {
+        self.parts.definitions.body(selector, classes)
+    }
+
+    /// Where the definitions that name the class stand, each once, in ascending order. It costs nothing that grows.
+    pub fn naming(&self, class: ClassNo) -> &[DefinitionKey]
+        ensures { result.now ≡ naming self.now.definitions class }
+    {
+        self.parts.definitions.naming(class)
     }
 
     /// The definition at this place, from 1, among those of the selector; `None` exactly where there is no such place.

@@ -1,6 +1,7 @@
 ghost use Rattle.std.specs.Prelude.{◌≡◌, ℕ, ◌<◌, ◌≤◌, [], length, filter, not, is_some, is_none, None, IsTrue, IsOk, IfOk, OnErr, OnOk};
 ghost use Rattle.dt_definitions.specs.Program.{same_classes, are_classes_before, place_definition, is_definition};
-ghost use Rattle.dt_definitions.specs.DefinitionRows.{RowAscends, with_selector, first_place, body_in, Searched};
+ghost use Rattle.dt_definitions.specs.DefinitionRows.{RowAscends, RowSearched, classes_at, with_selector, body_in};
+ghost use Rattle.dt_definitions.specs.Search.{first_place};
 
 use crate::defined::Defined;
 use crate::tuple::Tuple;
@@ -27,7 +28,7 @@ impl Model for Row {
 }
 
 /// Whether the first classes stand before the second: by the first place that differs.
-fn is_before(first: &[ClassNo], second: &[ClassNo]) -> bool
+pub(crate) fn is_before(first: &[ClassNo], second: &[ClassNo]) -> bool
     ensures { result ≡ are_classes_before first.now second.now }
 {
     match (first, second) {
@@ -39,7 +40,7 @@ fn is_before(first: &[ClassNo], second: &[ClassNo]) -> bool
 }
 
 /// Whether the two are the same.
-fn is_same(first: &[ClassNo], second: &[ClassNo]) -> bool
+pub(crate) fn is_same(first: &[ClassNo], second: &[ClassNo]) -> bool
     ensures { result ≡ same_classes first.now second.now }
 {
     first == second
@@ -48,7 +49,7 @@ fn is_same(first: &[ClassNo], second: &[ClassNo]) -> bool
 /// The first place from 0 of the row whose classes don't stand before these.
 fn place_in(row: &[Defined], classes: &[ClassNo]) -> usize
     requires { RowAscends row.now }
-    ensures { result ≡ first_place classes.now row.now }
+    ensures { result ≡ first_place classes_at are_classes_before classes.now row.now }
 {
     let mut low = 0;
     let mut high = row.len();
@@ -66,7 +67,7 @@ fn place_in(row: &[Defined], classes: &[ClassNo]) -> usize
 /// The place of the definition at these classes, or else the place at which it would stand.
 fn search(row: &[Defined], classes: &[ClassNo]) -> Result<usize, usize>
     requires { RowAscends row.now }
-    ensures { Searched row.now classes.now result }
+    ensures { RowSearched row.now classes.now result }
 {
     let place = place_in(row, classes);
     let Some(defined) = row.get(place) else {

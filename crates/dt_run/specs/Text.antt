@@ -1,8 +1,8 @@
 -- The text of a log: words with one space between two, each line with a line feed at its end.
-use Rattle.std.specs.Prelude.{ℕ, ◌+◌, List, [], ◌∷◌, ◌++◌, codes, decimal, flat_map, slice_get, unwrap_or}
+use Rattle.std.specs.Prelude.{ℕ, ◌+◌, List, [], ◌∷◌, ◌++◌, codes, decimal, flat_map, slice_get, unwrap_or, Option, None, Some}
 use Rattle.std.specs.List.{join_with_byte}
 use Rattle.dt_definitions.specs.declared.why.Why.{Why}
-use Rattle.dt_definitions.specs.declared.why.Why.TheVariants.{ClassExists, ClassUnknown, ParentTwice, TooManyParents, HasSubclasses, LinkExists, LinkUnknown, Cycle, SelectorExists, SelectorUnknown, ArityDiffers, NoDefinition, HasDefinitions, DefinitionsFull}
+use Rattle.dt_definitions.specs.Refusals.{number_of, word_of, class_of}
 use Rattle.dt_scratch.specs.declared.reply.Answer.{Answer}
 use Rattle.dt_scratch.specs.declared.reply.Answer.TheVariants.{Method, NotUnderstood, Ambiguous}
 use Rattle.dt_scratch.specs.declared.reply.Reply.{Reply}
@@ -18,22 +18,14 @@ use Rattle.dt_run.specs.declared.log.EditLine.TheVariants.{Accepted, Refused, Ve
 abbrev pub name_of : List (List ℕ) → ℕ → List ℕ
 name_of texts number = unwrap_or (slice_get texts number) []
 
+-- the name of the class, if there is one
+abbrev pub class_words : NameBook → Option ℕ → List (List ℕ)
+class_words book None = []
+class_words book (Some class) = name_of book.classes class ∷ []
+
 -- the words that tell a refusal: its number, its word, and the name of the class that it is about
 abbrev pub words_of_why : NameBook → Why → List (List ℕ)
-words_of_why book ClassExists = codes "1" ∷ codes "class-exists" ∷ []
-words_of_why book (ClassUnknown class) = codes "2" ∷ codes "class-unknown" ∷ name_of book.classes class ∷ []
-words_of_why book (ParentTwice class) = codes "3" ∷ codes "parent-twice" ∷ name_of book.classes class ∷ []
-words_of_why book TooManyParents = codes "4" ∷ codes "too-many-parents" ∷ []
-words_of_why book (HasSubclasses class) = codes "5" ∷ codes "has-subclasses" ∷ name_of book.classes class ∷ []
-words_of_why book LinkExists = codes "6" ∷ codes "link-exists" ∷ []
-words_of_why book LinkUnknown = codes "7" ∷ codes "link-unknown" ∷ []
-words_of_why book Cycle = codes "8" ∷ codes "cycle" ∷ []
-words_of_why book SelectorExists = codes "10" ∷ codes "selector-exists" ∷ []
-words_of_why book SelectorUnknown = codes "11" ∷ codes "selector-unknown" ∷ []
-words_of_why book ArityDiffers = codes "12" ∷ codes "arity-differs" ∷ []
-words_of_why book NoDefinition = codes "13" ∷ codes "no-definition" ∷ []
-words_of_why book HasDefinitions = codes "14" ∷ codes "has-definitions" ∷ []
-words_of_why book DefinitionsFull = codes "15" ∷ codes "definitions-full" ∷ []
+words_of_why book why = decimal (number_of why) ∷ word_of why ∷ class_words book (class_of why)
 
 -- the words after `edit`
 abbrev pub words_of_edit : NameBook → EditLine → List (List ℕ)

@@ -79,6 +79,7 @@ all_refusals : flat_map (λ why. line_of (words_of_why two_classes why))
     (ClassExists ∷ ClassUnknown 1 ∷ ParentTwice 0 ∷ TooManyParents ∷ HasSubclasses 1 ∷ LinkExists ∷ LinkUnknown ∷ Cycle
     ∷ SelectorExists ∷ SelectorUnknown ∷ ArityDiffers ∷ NoDefinition ∷ HasDefinitions ∷ DefinitionsFull ∷ [])
     ≡ codes "1 class-exists\n2 class-unknown B\n3 parent-twice A\n4 too-many-parents\n5 has-subclasses B\n6 link-exists\n7 link-unknown\n8 cycle\n10 selector-exists\n11 selector-unknown\n12 arity-differs\n13 no-definition\n14 has-definitions\n15 definitions-full\n"
+unfolding digits
 all_refusals = refl
 
 all_edits : text_of_edits two_classes (Accepted 10 ∷ Refused 2 Cycle ∷ VersionsFull ∷ CellsFull ∷ RowsFull ∷ NoPages 7 3 ∷ [])

@@ -1,7 +1,7 @@
 ghost use Rattle.std.specs.Prelude.{◌≡◌, ◌++◌, ◌∷◌, [], OnOk, IfOk, codes, decimal, flat_map};
 ghost use Rattle.std.specs.List.{join_with_byte};
 ghost use Rattle.dt_run.specs.Spaced.{spaced};
-ghost use Rattle.dt_run.specs.Text.{name_of, words_of_why, words_of_edit, words_of_answer, words_of_reply, words_of_call, line_of, text_of_part, text_of_edits, words_of_phase, text_of_phase, text_of_phases, text_of};
+ghost use Rattle.dt_run.specs.Text.{class_words, words_of_why, words_of_edit, words_of_answer, words_of_reply, words_of_call, line_of, text_of_part, text_of_edits, words_of_phase, text_of_phase, text_of_phases, text_of};
 
 use crate::log::{CallLine, EditLine, Log, PartLog, PhaseLog, Stamped};
 use crate::name_book::NameBook;
@@ -27,40 +27,23 @@ fn push_number(text: &mut Vec<u8>, number: u64) -> Result<(), NoMemory>
     push_word(text, buffer.format(number).as_bytes())
 }
 
-/// Puts words and the name of a class, each behind a space, at the end of the text.
-fn push_class(
-    text: &mut Vec<u8>,
-    words: &[u8],
-    names: &NameBook,
-    class: ClassNo,
-) -> Result<(), NoMemory>
-    ensures { OnOk result (text.new.items ≡ text.old.items ++ ((32 ∷ words.now) ++ (32 ∷ name_of names.now.classes class ++ []))) }
+/// Puts the name of the class, if there is one, behind a space at the end of the text.
+fn push_class(text: &mut Vec<u8>, names: &NameBook, class: Option<ClassNo>) -> Result<(), NoMemory>
+    ensures { OnOk result (text.new.items ≡ text.old.items ++ spaced (class_words names.now class)) }
 {
-    push_word(text, words)?;
-    let name = names.class_name(class).unwrap_or(b"");
-    push_word(text, name)
+    match class {
+        Some(class) => push_word(text, names.class_name(class).unwrap_or(b"")),
+        None => Ok(()),
+    }
 }
 
 /// Puts the words that tell a refusal at the end of the text.
 fn push_why(text: &mut Vec<u8>, names: &NameBook, why: Why) -> Result<(), NoMemory>
     ensures { OnOk result (text.new.items ≡ text.old.items ++ spaced (words_of_why names.now why)) }
 {
-    match why {
-        Why::ClassExists => push_word(text, b"1 class-exists"),
-        Why::ClassUnknown { class } => push_class(text, b"2 class-unknown", names, class),
-        Why::ParentTwice { class } => push_class(text, b"3 parent-twice", names, class),
-        Why::TooManyParents => push_word(text, b"4 too-many-parents"),
-        Why::HasSubclasses { class } => push_class(text, b"5 has-subclasses", names, class),
-        Why::LinkExists => push_word(text, b"6 link-exists"),
-        Why::LinkUnknown => push_word(text, b"7 link-unknown"),
-        Why::Cycle => push_word(text, b"8 cycle"),
-        Why::SelectorExists => push_word(text, b"10 selector-exists"),
-        Why::SelectorUnknown => push_word(text, b"11 selector-unknown"),
-        Why::ArityDiffers => push_word(text, b"12 arity-differs"),
-        Why::NoDefinition => push_word(text, b"13 no-definition"),
-        Why::HasDefinitions => push_word(text, b"14 has-definitions"),
-        Why::DefinitionsFull => push_word(text, b"15 definitions-full"),
-    }
+    push_number(text, u64::from(why.number()))?;
+    push_word(text, why.word().as_bytes())?;
+    push_class(text, names, why.class())
 }
 
 /// Puts the words of a reply at the end of the text.

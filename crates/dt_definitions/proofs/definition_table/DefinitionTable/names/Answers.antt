@@ -1,15 +1,11 @@
-use Rattle.std.proofs.Common.{sym, ◌∙◌, arith}
-use Rattle.std.proofs.lemmas.List.{get_or_default}
+use Rattle.std.proofs.Common.{eqb, not, length, filter, ap, ◌∙◌}
+use Rattle.std.proofs.lemmas.List.{length-map}
 use Rattle.dt_graph.specs.Graph.{has_number}
-use Rattle.dt_definitions.specs.Program.{Definition}
-use Rattle.dt_definitions.specs.DefinitionRows.{definitions_from}
-use Rattle.dt_definitions.proofs.DefinitionCounts.{any_by_count}
+use Rattle.dt_definitions.specs.Program.{Definition, key_of}
+use Rattle.dt_definitions.proofs.TableChanges.{filtered_any}
 use Rattle.dt_definitions.proofs.definition_table.DefinitionTable.names.Goals as goal
 
 pub returns : goal.returns
 returns c =
-    let named = c.self.inside.named.items in
-    let read = c.index.ensures ∙ get_or_default named c.number.result c.index.result.now 0 (omega (arith, c.self.invariant.all_classes, c.number.ensures.in_range)) in
-    let counted = read ∙ c.self.invariant.names_counted c.number.result c.number.ensures.in_range in
-    rw (counted, c.number.ensures.value, ← c.self.view_is)
-    (sym (any_by_count (λ (d : Definition). has_number d.classes c.args.class) (definitions_from 0 c.self.inside.rows.items)))
+    let many = ap length c.naming.ensures ∙ length-map (filter (λ (d : Definition). has_number d.classes c.args.class) c.args.self.now.all) key_of in
+    ap not (c.is_empty.ensures ∙ ap (λ n. eqb n 0) many) ∙ filtered_any (λ (d : Definition). has_number d.classes c.args.class) c.args.self.now.all
