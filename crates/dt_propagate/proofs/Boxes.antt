@@ -9,7 +9,7 @@ use Rattle.dt_graph.specs.Lawful.{AscendingNumbers}
 use Rattle.dt_definitions.specs.Program.{are_classes_before}
 use Rattle.dt_graph.proofs.ListMembers.{by_cases, In, In-append, In-from_append, In-later, In-map, In-from_map, In-from_Contains, Contains-from_In, All-from_In, All-In}
 use Rattle.dt_graph.proofs.AscendingSets.{ascending_tail}
-use Rattle.dt_graph.proofs.Members.{first_is_lowest}
+use Rattle.dt_graph.proofs.Ascending.{first_is_lowest}
 use Rattle.dt_propagate.specs.Boxes.{Box, is_within, is_within_any, left_of, after_class, in_turn, within}
 use Rattle.dt_propagate.specs.BoxLaws.{EachBeforeLater, BoxesHoldExactly, BoxesAscend}
 

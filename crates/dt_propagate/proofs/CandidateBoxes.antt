@@ -8,7 +8,8 @@ use Rattle.dt_graph.specs.Below.{is_below}
 use Rattle.dt_graph.specs.Descendants.{descendants}
 use Rattle.dt_graph.proofs.AscendingSets.{same_truth}
 use Rattle.dt_graph.proofs.BelowSets.{both_live}
-use Rattle.dt_definitions.specs.Program.{Definition, DefinitionKey, Program, definitions_of}
+use Rattle.dt_definitions.specs.Program.{Definition, Program, definitions_of}
+use Rattle.dt_definitions.specs.declared.definition_key.DefinitionKey.{DefinitionKey}
 use Rattle.dt_definitions.specs.Lawful.{Lawful}
 use Rattle.dt_scratch.specs.Query.{Query}
 use Rattle.dt_scratch.specs.Resolve.{are_below, applicable}

@@ -3,7 +3,8 @@ use Rattle.std.proofs.Common.{◌≡◌, ◌==◌, ℕ, ◌+◌, Bool, true, fal
 use Rattle.std.specs.List.{Contains}
 use Rattle.std.proofs.lemmas.Bool.{false≢true, and_parts, and_from, or_parts, eqb-true}
 use Rattle.dt_graph.specs.Below.{is_below}
-use Rattle.dt_definitions.specs.Program.{Definition, DefinitionKey, Program}
+use Rattle.dt_definitions.specs.Program.{Definition, Program}
+use Rattle.dt_definitions.specs.declared.definition_key.DefinitionKey.{DefinitionKey}
 use Rattle.dt_scratch.specs.Query.{Query}
 use Rattle.dt_scratch.specs.Resolve.{are_below, applicable}
 use Rattle.dt_graph.proofs.ListMembers.{by_cases, In-from_Contains, Contains-from_In, In-filter, In-from_filter, none_at}

@@ -2,7 +2,8 @@
 use Rattle.std.specs.Prelude.{◌≡◌, ℕ, not, IsTrue, List, map}
 use Rattle.dt_graph.specs.Graph.{Graph, has_number, is_live}
 use Rattle.dt_graph.specs.Descendants.{descendants}
-use Rattle.dt_definitions.specs.Program.{Definition, DefinitionKey, Program, definitions_of}
+use Rattle.dt_definitions.specs.Program.{Definition, Program, definitions_of}
+use Rattle.dt_definitions.specs.declared.definition_key.DefinitionKey.{DefinitionKey}
 use Rattle.dt_definitions.specs.Differing.{is_at_any}
 use Rattle.dt_graph.specs.LinkChanges.{is_below_any}
 use Rattle.dt_definitions.specs.Lawful.{Lawful}

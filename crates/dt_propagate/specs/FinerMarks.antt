@@ -2,7 +2,8 @@
 use Rattle.std.specs.Prelude.{◌≡◌, ℕ, ◌+◌, Bool, true, false, ◌&&◌, ◌||◌, IsTrue, List, [], ◌∷◌}
 use Rattle.std.specs.List.{Contains, list_any}
 use Rattle.dt_graph.specs.Below.{is_below}
-use Rattle.dt_definitions.specs.Program.{Definition, DefinitionKey, Program}
+use Rattle.dt_definitions.specs.Program.{Definition, Program}
+use Rattle.dt_definitions.specs.declared.definition_key.DefinitionKey.{DefinitionKey}
 use Rattle.dt_definitions.specs.Lawful.{Lawful}
 use Rattle.dt_scratch.specs.Query.{Query}
 use Rattle.dt_scratch.specs.Resolve.{applicable, cell}

@@ -3,7 +3,8 @@ use Rattle.std.proofs.Common.{◌≡◌, ◌==◌, ℕ, Bool, true, false, ◌&&
 use Rattle.std.specs.List.{Contains, list_any}
 use Rattle.std.proofs.lemmas.Bool.{false≢true, and_parts, and_from, or_parts}
 use Rattle.dt_graph.proofs.ListMembers.{by_cases, In-from_Contains, Contains-from_In, In-filter, In-from_filter, none_at}
-use Rattle.dt_definitions.specs.Program.{Definition, DefinitionKey, Program}
+use Rattle.dt_definitions.specs.Program.{Definition, Program}
+use Rattle.dt_definitions.specs.declared.definition_key.DefinitionKey.{DefinitionKey}
 use Rattle.dt_definitions.specs.Lawful.{Lawful}
 use Rattle.dt_definitions.specs.Differing.{DifferOnlyAt, is_at_any}
 use Rattle.dt_scratch.specs.Query.{Query}
