@@ -5,3 +5,4 @@ pub mod NumbersStay
 pub mod HandedOn
 pub mod Tokens
 pub mod LineMade
+pub mod Joined

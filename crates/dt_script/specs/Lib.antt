@@ -16,3 +16,4 @@ pub mod Numbering
 pub mod Written
 pub mod WrittenLine
 pub mod NumberedLine
+pub mod Writing

@@ -11,6 +11,7 @@ mod numbered_line;
 mod numbering;
 mod script_fault;
 mod words;
+mod writing;
 mod written;
 mod written_line;
 
@@ -19,3 +20,4 @@ pub use line::{CallerLine, Line};
 pub use line_read::{LineFault, read_line};
 pub use name_book::NameBook;
 pub use script_fault::ScriptFault;
+pub use writing::write_line;

@@ -40,12 +40,14 @@ pub fn read_line(
     ensures silent { (result ≡ Ok None) ↔ IsTrue (is_silent bytes.now) }
     ensures silent_names { result ≡ Ok None → names.new ≡ names.old }
     ensures line { IfOk result (λ meant. IfSome meant (λ line. LineOf bytes.now names.old line names.new)) }
+    ensures fits { IsTrue (is_within_limits names.new) }
     ensures malformed { IsErrOf result LineFault.Malformed
         → (line : Line) (after : book.NameBook) → LineOf bytes.now names.old line after → ⊥ }
     ensures malformed_names { IsErrOf result LineFault.Malformed → names.new ≡ names.old }
     ensures full { IsErrOf result LineFault.NamesFull → (line : Line) × (after : book.NameBook)
         × LineOf bytes.now names.old line after × IsTrue (not (is_within_limits after)) }
 {
+    names.law();
     if is_silent(bytes) {
         return Ok(None);
     }

@@ -1,7 +1,7 @@
 ghost use Rattle.std.specs.Prelude.{◌≡◌, ◌↔◌, ◌<◌, IsTrue, IfOk, OnOk, OnErr, IsErrOf, is_none, nat_le, ◌&&◌, length, slice_get};
 ghost use Rattle.std.specs.Option.{option_copied};
 ghost use Rattle.dt_selectors.specs.Names.{is_name, place_of};
-ghost use Rattle.dt_script.specs.NameBook.{empty_book, with_class, with_selector, with_body, number_in};
+ghost use Rattle.dt_script.specs.NameBook.{empty_book, is_within_limits, with_class, with_selector, with_body, number_in};
 
 use dt_definitions::{BODIES, BodyNo, CLASSES, ClassNo, NoMemory, SELECTORS, SelNo};
 use dt_selectors::{NameFault, Names};
@@ -39,6 +39,15 @@ impl NameBook {
             selectors: Names::new(alloc, u32::from(SELECTORS))?,
             bodies: Names::new(alloc, BODIES)?,
         })
+    }
+
+    /// What holds of every book. It does nothing: a caller whose reasoning needs this calls it.
+    pub fn law(&self)
+        ensures { IsTrue (is_within_limits self.now) }
+    {
+        self.classes.law();
+        self.selectors.law();
+        self.bodies.law();
     }
 
     /// The number of the class with this name.
@@ -100,6 +109,27 @@ impl NameBook {
         ensures { option_copied result ≡ slice_get self.now.classes class }
     {
         self.classes.text(u32::from(class.number()))
+    }
+
+    /// The name of the selector; `None` exactly where no selector has this number.
+    pub fn selector_name(&self, selector: SelNo) -> Option<&[u8]>
+        ensures { option_copied result ≡ slice_get self.now.selectors selector }
+    {
+        self.selectors.text(u32::from(selector.number()))
+    }
+
+    // The name of the selector with this number, which may be any.
+    pub(crate) fn selector_text(&self, selector: u16) -> Option<&[u8]>
+        ensures { option_copied result ≡ slice_get self.now.selectors selector }
+    {
+        self.selectors.text(u32::from(selector))
+    }
+
+    // The name of the class with this number, which may be any.
+    pub(crate) fn class_text(&self, class: u16) -> Option<&[u8]>
+        ensures { option_copied result ≡ slice_get self.now.classes class }
+    {
+        self.classes.text(u32::from(class))
     }
 
     /// The name of the body; `None` exactly where no body has this number.

@@ -2,6 +2,7 @@ ghost use Rattle.std.specs.Prelude.{◌≡◌, IsTrue};
 ghost use Rattle.std.specs.List.{list_all};
 ghost use Rattle.dt_selectors.specs.Names.{is_name};
 ghost use Rattle.dt_script.specs.Cut.{parts_at};
+ghost use Rattle.dt_script.specs.NameBook.{is_within_limits};
 ghost use Rattle.dt_script.specs.Written.{texts_of, texts_of_classes};
 ghost use Rattle.dt_script.specs.NumberedLine.{IsLineNumbered};
 ghost use Rattle.dt_script.specs.declared.written.Written.TheVariants as written;
@@ -21,6 +22,17 @@ pub fn number_line(
     names: &mut NameBook,
     line: &Written<'_>,
 ) -> Result<Line, NameFault>
+    requires { IsTrue (list_all is_name (texts_of line.now)) }
+    ensures numbered { IsLineNumbered names.old line.now result names.new }
+    ensures fits { IsTrue (is_within_limits names.new) }
+{
+    let numbered = line_by_kind(alloc, names, line);
+    names.law();
+    numbered
+}
+
+// The line of each kind with the numbers of its names.
+fn line_by_kind(alloc: Global, names: &mut NameBook, line: &Written<'_>) -> Result<Line, NameFault>
     requires { IsTrue (list_all is_name (texts_of line.now)) }
     ensures { IsLineNumbered names.old line.now result names.new }
 {
