@@ -1,3 +1,4 @@
 pub mod Serving
 pub mod Limits
 pub mod Reading
+pub mod BatchSteps

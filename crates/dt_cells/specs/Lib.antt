@@ -8,3 +8,4 @@ pub mod Find
 pub mod Heads
 pub mod Serving
 pub mod Examples
+pub mod Following

@@ -3,6 +3,7 @@
 #![tactic(auto)]
 
 mod cell;
+mod following;
 mod head;
 mod head_words;
 mod kind;
@@ -10,6 +11,7 @@ mod laws;
 mod regions;
 
 pub use cell::{answer_by_word, word_of_answer};
+pub use following::follow;
 pub use head_words::heads;
 pub use kind::TableKind;
 pub use laws::{law_of_kinds, tuples_follow};
