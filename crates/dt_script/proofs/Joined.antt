@@ -60,7 +60,7 @@ subclass_text book class old new (parent ∷ parents) some is =
     regroup = simp append_assoc
 
 -- the texts of words are theirs
-texts-are : (book : NameBook) (words : List Word) (texts : List (List ℕ)) → AreTexts book words texts → map (word_text book) words ≡ texts
+pub texts-are : (book : NameBook) (words : List Word) (texts : List (List ℕ)) → AreTexts book words texts → map (word_text book) words ≡ texts
 texts-are book [] [] are = refl
 texts-are book [] (text ∷ texts) are = absurd are
 texts-are book (word ∷ words) [] are = absurd are

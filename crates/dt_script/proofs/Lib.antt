@@ -6,3 +6,4 @@ pub mod HandedOn
 pub mod Tokens
 pub mod LineMade
 pub mod Joined
+pub mod SpellingLaws

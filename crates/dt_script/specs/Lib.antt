@@ -17,3 +17,4 @@ pub mod Written
 pub mod WrittenLine
 pub mod NumberedLine
 pub mod Writing
+pub mod Laws
