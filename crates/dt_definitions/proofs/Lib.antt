@@ -11,6 +11,7 @@ pub mod Lists
 pub mod DefinitionChanges
 pub mod Steps
 pub mod LawfulSteps
+pub mod ProgramLaws
 pub mod SelectorUndo
 pub mod DefinitionUndo
 pub mod UndoSteps

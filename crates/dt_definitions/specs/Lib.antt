@@ -13,6 +13,7 @@ pub mod RefusalWords
 pub mod Naming
 pub mod TwoPrograms
 -- Laws that follow from these.
+pub mod ProgramLaws
 pub mod Laws
 pub mod AnswerLaws
 pub mod MemoryLaws

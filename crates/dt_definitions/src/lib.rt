@@ -39,7 +39,8 @@ pub use dt_selectors::{
 };
 pub use edit::Edit;
 pub use law::{
-    batches_are_their_edits, definitions_stand_alone, histories_are_lawful, steps_keep_law,
+    batches_are_their_edits, definitions_stand_alone, histories_are_lawful, lawful_programs,
+    steps_keep_law,
 };
 pub use limits::DEFINITIONS;
 pub use parents::Parents;
