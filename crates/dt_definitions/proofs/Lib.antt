@@ -4,7 +4,7 @@ pub mod ListOrder
 pub mod DefinitionOrder
 pub mod Placing
 pub mod DefinedOnce
-pub mod DefinitionCounts
+pub mod Lengths
 pub mod Keys
 pub mod NamingLists
 pub mod Lists
