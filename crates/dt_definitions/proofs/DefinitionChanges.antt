@@ -11,7 +11,7 @@ use Rattle.dt_definitions.specs.Program.{Definition, is_definition, place_defini
 use Rattle.dt_definitions.specs.Naming.{NamingList, naming, place_key, without_key, keys_at, room_at, HasRoomIn, KeysStay, RoomsGrow}
 use Rattle.dt_definitions.specs.SelectorLists.{SelectorList, with_selector, definitions_from, rooms_of, rooms_in, body_in, DefinitionsKept, NoneDefined, HaveSameDefinitions, ListRoomFor, HasNamingRoom, NoneShrinks}
 use Rattle.dt_definitions.proofs.DefinitionOrder.{key_order, place-ascends, filter-ascends, is_definition-equal}
-use Rattle.dt_definitions.proofs.DefinitionCounts.{count-place_new, count-place_again, count-filter, length_is_count, all_read_place}
+use Rattle.dt_definitions.proofs.Lengths.{length-place_new, length-place_again, length-without}
 use Rattle.dt_definitions.proofs.Keys.{keys-place, keys-again, keys-without}
 use Rattle.dt_definitions.proofs.Lists.{none_from_empty, of_row, find_of}
 
@@ -74,9 +74,7 @@ module _ (rows new : List SelectorList) (count : ℕ) (lists : List NamingList) 
       let ds = definitions_from 0 rows in
       record {
         all_selectors = l;
-        counted = k.counted ∙ length_is_count ds
-            ∙ sym (count-place_again (λ _. true) d ds all_read_place k.ascends there)
-            ∙ sym (length_is_count (place_definition d ds)) ∙ ap length (sym e);
+        counted = k.counted ∙ sym (length-place_again key_of is_key_before is_same_key key_order d ds k.ascends there) ∙ ap length (sym e);
         named = λ class c. k.named class c
             ∙ sym (keys-again key_of is_key_before is_same_key key_order (λ key. has_number key.classes class) d ds k.ascends there)
             ∙ ap (λ ds. naming ds class) (sym e);
@@ -92,8 +90,7 @@ module _ (rows new : List SelectorList) (count : ℕ) (lists : List NamingList) 
       let ds = definitions_from 0 rows in
       record {
         all_selectors = l;
-        counted = rw (e, k.counted, length_is_count (place_definition d ds), length_is_count ds)
-            (sym (count-place_new (λ _. true) d ds absent));
+        counted = rw (e, k.counted) (sym (length-place_new key_of is_key_before is_same_key key_order d ds absent));
         named = λ class c. g class ∙ rw (k.named class c, e)
             (sym (keys-place key_of is_key_before is_same_key key_order (λ key. has_number key.classes class) d ds k.ascends));
         ascends = rw e (place-ascends d ds k.ascends);
@@ -106,16 +103,9 @@ module _ (rows new : List SelectorList) (count : ℕ) (lists : List NamingList) 
       → DefinitionsKept new (count - 1) named
   kept_remove d named e there g =
       let ds = definitions_from 0 rows in
-      let rest = filter (λ e. not (is_definition d.selector d.classes e)) ds in
       record {
         all_selectors = l;
-        counted = rw e (omega (
-          arith,
-          k.counted,
-          length_is_count rest,
-          length_is_count ds,
-          count-filter (λ _. true) d ds all_read_place k.ascends there,
-        ));
+        counted = rw e (omega (arith, k.counted, length-without key_of is_key_before is_same_key key_order (key_of d) ds k.ascends there));
         named = λ class c. g class ∙ rw (k.named class c, e)
             (sym (keys-without key_of is_key_before is_same_key key_order (λ key. has_number key.classes class) (key_of d) ds));
         ascends = rw e (filter-ascends (λ e. not (is_definition d.selector d.classes e)) ds k.ascends);

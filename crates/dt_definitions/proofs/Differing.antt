@@ -15,7 +15,7 @@ use Rattle.dt_definitions.specs.Lawful.{Lawful, IsInRange}
 use Rattle.dt_definitions.specs.Laws.{LeadsTo}
 use Rattle.dt_definitions.specs.Step.{effect, step}
 use Rattle.dt_definitions.specs.Differing.{OthersStayDefined, DifferOnlyAt, is_at_any, edited_by, redefined_by, edited_classes, redefined_keys}
-use Rattle.dt_definitions.specs.ProgramLaws.{BatchesDifferWhereTheySay, BatchesKeepLaw}
+use Rattle.dt_definitions.specs.BatchLaws.{BatchesDifferWhereTheySay, BatchesKeepLaw}
 use Rattle.dt_definitions.specs.declared.edit.Edit.{Edit}
 use Rattle.dt_definitions.specs.declared.edit.Edit.TheVariants.{AddClass, DropClass, Link, Unlink, AddSelector, DropSelector, Define, Undefine}
 use Rattle.dt_definitions.proofs.AnswerLaws.{ok_has_no_cause}

@@ -1,10 +1,10 @@
 -- The step of an edit keeps a program lawful.
-use Rattle.std.proofs.Common.{◌≡◌, ℕ, ◌<◌, true, false, cond, not, List, [], ◌∷◌, length, filter, get_or, option_map, Option, Some, None, Ok, Err, Result, is_some, IsTrue, All, refl, sym, ap, subst, ◌∙◌, arith, eqb}
+use Rattle.std.proofs.Common.{◌≡◌, ℕ, ◌<◌, true, false, not, List, [], ◌∷◌, length, filter, get_or, option_map, Option, Some, None, Ok, Err, Result, is_some, IsTrue, All, refl, sym, ap, subst, ◌∙◌, arith, eqb}
 use Rattle.std.specs.Option.{option_map_or}
 use Rattle.std.proofs.lemmas.Bool.{eq-eqb, eqb-true, ne_eqb, false≢true}
 use Rattle.std.proofs.lemmas.Bool.Decides.{nat_tests}
 use Rattle.std.proofs.lemmas.List.Folds.{list_any_at}
-use Rattle.std.proofs.lemmas.List.Elements.{All-nil, All-cons, All-head, All-tail, All-filter, All-weaker, filter_passes}
+use Rattle.std.proofs.lemmas.List.Elements.{All-nil, All-cons, All-filter, All-weaker, filter_passes}
 use Rattle.dt_graph.specs.Refusal.{cause_if}
 use Rattle.dt_graph.specs.Graph.{Graph, empty_graph, has_number, is_live, place_number}
 use Rattle.dt_graph.specs.GraphChange.{add_cause, add_effect, drop_cause, drop_effect, link_cause, link_effect, unlink_cause, unlink_effect, first_unknown}
@@ -13,7 +13,7 @@ use Rattle.dt_graph.specs.declared.limits.TheConstants.{CLASSES}
 use Rattle.dt_selectors.specs.Selectors.{Selector, arity_in, has_selector, place_selector, without_selector}
 use Rattle.dt_selectors.specs.Lawful.{LawfulSelector, LawfulSelectors}
 use Rattle.dt_selectors.specs.Laws.{AddingSetsOneArity, DroppingUnsetsOneArity}
-use Rattle.dt_definitions.specs.Program.{Definition, Program, empty_program, arity_of, definitions_of, is_definition, is_definition_before, place_definition}
+use Rattle.dt_definitions.specs.Program.{Definition, Program, empty_program, arity_of, definitions_of, is_definition, place_definition, key_of, is_key_before, is_same_key}
 use Rattle.dt_definitions.specs.Lawful.{LawfulDefinition, Lawful, IsInRange}
 use Rattle.dt_definitions.specs.Step.{why_of, is_named, is_defined, arity_differs, refusal, effect, step, with_graph, with_selectors, with_definitions, Applies}
 use Rattle.dt_definitions.specs.declared.edit.Edit.{Edit}
@@ -22,7 +22,8 @@ use Rattle.dt_definitions.specs.declared.why.Why.{Why}
 use Rattle.dt_definitions.specs.declared.why.Why.TheVariants as why
 use Rattle.dt_definitions.specs.declared.why.ApplyFault.{ApplyFault}
 use Rattle.dt_definitions.proofs.AnswerLaws.{ok_has_no_cause, ok_alone_changes}
-use Rattle.dt_definitions.proofs.DefinitionOrder.{place-ascends, filter-ascends}
+use Rattle.dt_definitions.proofs.DefinitionOrder.{key_order, place-ascends, filter-ascends}
+use Rattle.dt_graph.proofs.InOrder.{All-place}
 use Rattle.dt_definitions.proofs.Steps.{NoCause, no_cause, not_caused, none_mapped, few-place, few-filter, may_define}
 
 -- a class of a definition is named, and a definition's selector is defined
@@ -80,15 +81,7 @@ beside : (p : Program) (ds : List Definition) (d : Definition) → LawfulDefinit
 beside p ds d h = record { arity_fits = h.arity_fits; classes_live = h.classes_live; body_in_range = h.body_in_range }
 
 place-all : (P : Definition → Type 0) (d : Definition) (ds : List Definition) → P d → All P ds → All P (place_definition d ds)
-place-all P d [] p h = All-cons P d [] p h
-place-all P d (e ∷ ds) p h =
-    elim (is_definition_before d e) as (λ b. All P (cond b (d ∷ e ∷ ds) (cond (is_definition d.selector d.classes e) (d ∷ ds) (e ∷ place_definition d ds)))) [
-      | true ↦ All-cons P d (e ∷ ds) p h
-      | false ↦ elim (is_definition d.selector d.classes e) as (λ b. All P (cond b (d ∷ ds) (e ∷ place_definition d ds))) [
-        | true ↦ All-cons P d ds p (All-tail P e ds h)
-        | false ↦ All-cons P e (place_definition d ds) (All-head P e ds h) (place-all P d ds p (All-tail P e ds h))
-      ]
-    ]
+place-all = All-place key_of is_key_before is_same_key key_order
 
 -- what stays live
 live-placed : (class n : ℕ) (ns : List ℕ) → IsTrue (has_number ns n) → IsTrue (has_number (place_number class ns) n)

@@ -4,13 +4,14 @@ pub mod ListOrder
 pub mod DefinitionOrder
 pub mod Placing
 pub mod DefinedOnce
-pub mod DefinitionCounts
+pub mod Lengths
 pub mod Keys
 pub mod NamingLists
 pub mod Lists
 pub mod DefinitionChanges
 pub mod Steps
 pub mod LawfulSteps
+pub mod ProgramLaws
 pub mod SelectorUndo
 pub mod DefinitionUndo
 pub mod UndoSteps

@@ -2,7 +2,7 @@
 use Rattle.std.proofs.Common.{◌≡◌, ◌+◌, true, false, not, ◌&&◌, List, length, is_none, Ok, Err, IsTrue, refl, ap, ◌∙◌, arith}
 use Rattle.std.specs.List.{list_any}
 use Rattle.std.proofs.lemmas.Bool.{false≢true, and_parts}
-use Rattle.dt_definitions.specs.Program.{Definition, Program, is_definition, place_definition}
+use Rattle.dt_definitions.specs.Program.{Definition, Program, is_definition, place_definition, key_of, is_key_before, is_same_key}
 use Rattle.dt_definitions.specs.Step.{has_definition, refusal, effect, step}
 use Rattle.dt_definitions.specs.MemoryLaws.{OneMoreTakesMemory, MemoryIsForOneMore, RefusedEditsTakeNone, WithoutTheTestDecided, WithoutTheTestDecidedBatch, DecidedIsFree, DecidedBatchIsFree}
 use Rattle.dt_definitions.specs.declared.edit.Edit.{Edit}
@@ -10,14 +10,15 @@ use Rattle.dt_definitions.specs.declared.edit.Edit.TheVariants.{AddClass, DropCl
 use Rattle.dt_definitions.specs.declared.why.ApplyFault.TheVariants as apply_fault
 use Rattle.dt_definitions.specs.declared.why.BatchFault.TheVariants as batch_fault
 use Rattle.dt_definitions.proofs.AnswerLaws.{ok_has_no_cause, refusals_are_the_first_cause}
-use Rattle.dt_definitions.proofs.DefinitionCounts.{count-place_new, count-place_again, length_is_count, all_read_place}
+use Rattle.dt_definitions.proofs.DefinitionOrder.{key_order}
+use Rattle.dt_definitions.proofs.Lengths.{length-place_new, length-place_again}
 use Rattle.dt_definitions.proofs.Steps.{few-filter}
 
 -- how many definitions there are with one that was not there, and with one that was
 length_with_new : (d : Definition) (ds : List Definition) → list_any (is_definition d.selector d.classes) ds ≡ false
     → length (place_definition d ds) ≡ length ds + 1
 length_with_new d ds absent =
-    omega (arith, count-place_new (λ _. true) d ds absent, length_is_count ds, length_is_count (place_definition d ds))
+    length-place_new key_of is_key_before is_same_key key_order d ds absent
 
 -- an accepted edit has its effect, of so many definitions
 so_many : (p q : Program) (edit : Edit) → step p edit ≡ Ok q → length q.definitions ≡ length (effect p edit).definitions
@@ -32,7 +33,7 @@ one_more_takes_memory p q (AddSelector selector arity) l h n = absurd (omega (ar
 one_more_takes_memory p q (DropSelector selector) l h n = absurd (omega (arith, n, so_many p q (DropSelector selector) h))
 one_more_takes_memory p q (Define selector classes body) l h n =
     let d : Definition = record { selector = selector; classes = classes; body = body } in
-    let again = count-place_again (λ _. true) d p.definitions all_read_place l.definitions_ascend in
+    let again = length-place_again key_of is_key_before is_same_key key_order d p.definitions l.definitions_ascend in
     let none = (ok_has_no_cause p q (Define selector classes body) h).0 in
     elim (has_definition p selector classes) as (λ t. has_definition p selector classes ≡ t
     → IsTrue (is_none (refusal p (Define selector classes body)) && not t)) [
@@ -41,8 +42,6 @@ one_more_takes_memory p q (Define selector classes body) l h n =
         n,
         so_many p q (Define selector classes body) h,
         again there,
-        length_is_count p.definitions,
-        length_is_count (place_definition d p.definitions),
       ))
       | false ↦ λ _. ap (λ o. is_none o && true) none
     ] refl

@@ -5,7 +5,7 @@ use Rattle.std.proofs.lemmas.Bool.{leb-false}
 use Rattle.dt_graph.specs.Refusal.{cause_if, first_cause, ok_unless}
 use Rattle.dt_graph.specs.GraphChange.{first_unknown}
 use Rattle.dt_selectors.specs.Selectors.{has_selector}
-use Rattle.dt_definitions.specs.Program.{Definition, Program, is_definition, place_definition}
+use Rattle.dt_definitions.specs.Program.{Definition, Program, is_definition, place_definition, key_of, is_key_before, is_same_key}
 use Rattle.dt_definitions.specs.Lawful.{AscendingDefinitions}
 use Rattle.dt_definitions.specs.Step.{why_of, has_definition, arity_differs, refusal, effect, step, with_definitions}
 use Rattle.dt_definitions.specs.Memory.{may_want_memory}
@@ -15,7 +15,8 @@ use Rattle.dt_definitions.specs.declared.edit.Edit.TheVariants.{Define}
 use Rattle.dt_graph.specs.declared.graph_fault.GraphFault.{GraphFault}
 use Rattle.dt_definitions.specs.declared.why.Why.{Why}
 use Rattle.dt_definitions.specs.declared.why.Why.TheVariants as why
-use Rattle.dt_definitions.proofs.DefinitionCounts.{count-place_new, count-place_again, length_is_count, all_read_place}
+use Rattle.dt_definitions.proofs.DefinitionOrder.{key_order}
+use Rattle.dt_definitions.proofs.Lengths.{length-place_new, length-place_again}
 
 pub refused : (p : Program) (edit : Edit) (cause : Why) → Some cause ≡ refusal p edit → step p edit ≡ Err cause
 refused p edit cause h = ap (λ r. ok_unless r (effect p edit)) (sym h)
@@ -43,9 +44,8 @@ pub few-place : (d : Definition) (ds : List Definition)
     → (leb DEFINITIONS (length ds) && not (list_any (is_definition d.selector d.classes) ds)) ≡ false
     → length (place_definition d ds) ≤ DEFINITIONS
 few-place d ds u l h =
-    let n = count-place_new (λ _. true) d ds in
-    let a = count-place_again (λ _. true) d ds all_read_place u in
-    let x = length_is_count ds in let y = length_is_count (place_definition d ds) in
+    let n = length-place_new key_of is_key_before is_same_key key_order d ds in
+    let a = length-place_again key_of is_key_before is_same_key key_order d ds u in
     elim (list_any (is_definition d.selector d.classes) ds) as (λ t. list_any (is_definition d.selector d.classes) ds ≡ t → (leb DEFINITIONS (length ds) && not t) ≡ false → length (place_definition d ds) ≤ DEFINITIONS) [
       | true ↦ λ there _. omega (arith, a there)
       | false ↦ λ absent full.

@@ -6,7 +6,7 @@ use Rattle.dt_definitions.specs.declared.why.ApplyFault.{ApplyFault}
 use Rattle.dt_definitions.specs.declared.why.ApplyFault.TheVariants as apply_fault
 use Rattle.dt_definitions.specs.declared.why.BatchFault.{BatchFault}
 use Rattle.dt_definitions.specs.declared.why.BatchFault.TheVariants as batch_fault
-use Rattle.dt_definitions.specs.History.{step, step_batch, Refused}
+use Rattle.dt_definitions.specs.History.{step, step_batch}
 
 -- what the answer of an edit says of the programs before and after it; want of memory may come instead of any
 abbrev pub Applies : Program → Edit → Program → Result (Unit {0}) ApplyFault → Type 0

@@ -3,7 +3,7 @@ use Rattle.std.specs.Prelude.{◌≡◌, true, false, List, [], ◌∷◌, refl}
 use Rattle.dt_definitions.specs.Program.{Program, empty_program}
 use Rattle.dt_definitions.specs.Step.{stepped, after}
 use Rattle.dt_definitions.specs.Differing.{DifferOnlyAt, is_at_any, edited_classes, redefined_keys}
-use Rattle.dt_definitions.specs.ProgramLaws.{BatchesDifferWhereTheySay, HistoriesGoOnByOne}
+use Rattle.dt_definitions.specs.BatchLaws.{BatchesDifferWhereTheySay, HistoriesGoOnByOne}
 use Rattle.dt_definitions.specs.declared.edit.Edit.{Edit}
 use Rattle.dt_definitions.specs.declared.edit.Edit.TheVariants as edit
 use Rattle.dt_definitions.specs.Examples.{at, circle, draw, shape, square}

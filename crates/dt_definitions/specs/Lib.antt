@@ -13,9 +13,10 @@ pub mod RefusalWords
 pub mod Naming
 pub mod TwoPrograms
 -- Laws that follow from these.
+pub mod ProgramLaws
 pub mod Laws
 pub mod Differing
-pub mod ProgramLaws
+pub mod BatchLaws
 pub mod AnswerLaws
 pub mod MemoryLaws
 -- Worked examples.

@@ -1,28 +1,30 @@
--- Laws of lawful programs, and of what batches and histories make of programs.
-use Rattle.std.specs.Prelude.{◌≡◌, ℕ, ◌≤◌, List, [], ◌∷◌, ◌++◌, count_by, Ok}
-use Rattle.dt_definitions.specs.Program.{Program, is_definition}
+-- What holds of every lawful program, and so of every `Program`, also of one of which there is no value at hand.
+use Rattle.std.specs.Prelude.{◌≡◌, ℕ, ◌<◌, ◌≤◌, IsTrue, List, length, Some, All, count_by}
+use Rattle.dt_graph.specs.Graph.{is_live}
+use Rattle.dt_graph.specs.Below.{HasNoCycle}
+use Rattle.dt_graph.specs.declared.limits.TheConstants.{CLASSES}
+use Rattle.dt_selectors.specs.declared.limits.TheConstants.{BODIES}
+use Rattle.dt_definitions.specs.Program.{Program, arity_of, definitions_of, is_definition}
 use Rattle.dt_definitions.specs.Lawful.{Lawful}
-use Rattle.dt_definitions.specs.Laws.{AreInRange}
-use Rattle.dt_definitions.specs.Step.{step_batch, stepped, after}
-use Rattle.dt_definitions.specs.Differing.{DifferOnlyAt, edited_classes, redefined_keys}
-use Rattle.dt_definitions.specs.declared.edit.Edit.{Edit}
+
+-- live classes are in range
+abbrev pub LiveClassesAreInRange : Type 0
+LiveClassesAreInRange = (p : Program) → Lawful p → (class : ℕ) → IsTrue (is_live p.graph class) → class < CLASSES
+
+-- a definition has as many classes as its selector takes arguments, and they are live
+abbrev pub DefinitionsFit : Type 0
+DefinitionsFit = (p : Program) → Lawful p → (selector : ℕ) → All (λ d. (arity_of p selector ≡ Some (length d.classes))
+    × All (λ class. IsTrue (is_live p.graph class)) d.classes) (definitions_of p selector)
 
 -- no selector is defined twice at the same classes
-abbrev pub DefinedOnce : Type 0
-DefinedOnce = (program : Program) → Lawful program → (selector : ℕ) (classes : List ℕ) →
-    count_by (is_definition selector classes) program.definitions ≤ 1
+abbrev pub DefinitionsStandOnce : Type 0
+DefinitionsStandOnce = (p : Program) → Lawful p → (selector : ℕ) (classes : List ℕ)
+    → count_by (is_definition selector classes) p.definitions ≤ 1
 
--- a batch that is accepted leaves a lawful program
-abbrev pub BatchesKeepLaw : Type 0
-BatchesKeepLaw = (old new : Program) (edits : List Edit) → Lawful old → AreInRange edits →
-    step_batch old edits ≡ Ok new → Lawful new
+-- the bodies are in range
+abbrev pub BodiesAreInRange : Type 0
+BodiesAreInRange = (p : Program) → Lawful p → All (λ d. d.body < BODIES) p.definitions
 
--- and one that differs from the old one only where its edits say
-abbrev pub BatchesDifferWhereTheySay : Type 0
-BatchesDifferWhereTheySay = (old new : Program) (edits : List Edit) → step_batch old edits ≡ Ok new →
-    DifferOnlyAt (edited_classes edits) (redefined_keys edits) old new
-
--- the program after one batch more is the step of that batch
-abbrev pub HistoriesGoOnByOne : Type 0
-HistoriesGoOnByOne = (history : List (List Edit)) (batch : List Edit) →
-    after (history ++ batch ∷ []) ≡ stepped (after history) batch
+-- no class is above itself
+abbrev pub NoClassIsAboveItself : Type 0
+NoClassIsAboveItself = (p : Program) → Lawful p → HasNoCycle p.graph.links

@@ -3,6 +3,7 @@ ghost use Rattle.dt_definitions.specs.declared.edit.Edit.{Edit};
 ghost use Rattle.dt_definitions.specs.Program.{Program, empty_program};
 ghost use Rattle.dt_definitions.specs.Lawful.{Lawful, IsInRange};
 ghost use Rattle.dt_definitions.specs.Step.{step};
+ghost use Rattle.dt_definitions.specs.ProgramLaws.{LiveClassesAreInRange, DefinitionsFit, DefinitionsStandOnce, BodiesAreInRange, NoClassIsAboveItself};
 ghost use Rattle.dt_definitions.specs.Laws.{BatchIsItsEdits, EditsAreABatch, BatchStopsAtItsEdit, EditsStopABatch, DefineSetsOneBody, UndefineClearsOneBody, DefinesCommute, HistoriesAreLawful};
 
 /// The empty program is lawful, and the step of an edit on a lawful program, where it isn't refused, leaves a lawful
@@ -41,3 +42,13 @@ pub fn histories_are_lawful()
 {
     steps_keep_law();
 }
+
+/// What [`Program::law`](crate::Program::law) says of a program at hand, of every lawful program. It does nothing: a
+/// caller whose reasoning needs this calls it.
+pub fn lawful_programs()
+    ensures live_in_range { LiveClassesAreInRange }
+    ensures definitions_fit { DefinitionsFit }
+    ensures defined_once { DefinitionsStandOnce }
+    ensures bodies_in_range { BodiesAreInRange }
+    ensures no_cycle { NoClassIsAboveItself }
+{}

@@ -1,12 +1,6 @@
-ghost use Rattle.dt_definitions.specs.ProgramLaws.{BatchesDifferWhereTheySay, BatchesKeepLaw, DefinedOnce, HistoriesGoOnByOne};
+ghost use Rattle.dt_definitions.specs.BatchLaws.{BatchesDifferWhereTheySay, BatchesKeepLaw, HistoriesGoOnByOne};
 
 use crate::law::steps_keep_law;
-
-/// In every lawful program, also in one of which there is no value, a selector has at most one definition at the same
-/// classes. It does nothing: a caller whose reasoning needs this calls it.
-pub fn keys_are_defined_once()
-    ensures { DefinedOnce }
-{}
 
 /// A batch that is accepted leaves a lawful program, which differs from the old one only in the links of the classes
 /// that its edits add, drop, link or unlink, and in the definitions that they make or take away. It does nothing: a

@@ -40,9 +40,10 @@ pub use dt_selectors::{
 };
 pub use edit::Edit;
 pub use law::{
-    batches_are_their_edits, definitions_stand_alone, histories_are_lawful, steps_keep_law,
+    batches_are_their_edits, definitions_stand_alone, histories_are_lawful, lawful_programs,
+    steps_keep_law,
 };
-pub use laws::{batches_differ_where_they_say, histories_go_on_by_one, keys_are_defined_once};
+pub use laws::{batches_differ_where_they_say, histories_go_on_by_one};
 pub use limits::DEFINITIONS;
 pub use parents::Parents;
 pub use program::Program;
