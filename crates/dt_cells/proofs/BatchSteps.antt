@@ -6,14 +6,14 @@ use Rattle.std.specs.Ordering.{nat_cmp}
 use Rattle.std.specs.FinMap.{empty, get-empty}
 use Rattle.std.proofs.lemmas.Bool.{or_from}
 use Rattle.std.proofs.lemmas.Bool.Decides.{nat_tests}
-use Rattle.dt_pages.specs.Reading.{Reading}
+use Rattle.dt_pages.specs.Reading.{Reading, blank}
 use Rattle.dt_pages.specs.Draft.{Drafted, laid_over}
 use Rattle.dt_definitions.specs.Lawful.{Lawful}
-use Rattle.dt_definitions.specs.Program.{Program}
+use Rattle.dt_definitions.specs.Program.{Program, empty_program}
 use Rattle.dt_scratch.specs.CellLaws.{UnderstoodCells}
 use Rattle.dt_scratch.specs.declared.reply.Change.{Change}
 use Rattle.dt_cells.specs.Regions.{class_numbers, selector_at, place_of}
-use Rattle.dt_cells.specs.Held.{Held, after, is_changed_place}
+use Rattle.dt_cells.specs.Held.{Held, none_held, after, is_changed_place}
 use Rattle.dt_cells.specs.HeldLaws.{by_cases, if_true, if_false}
 use Rattle.dt_cells.specs.Kind.{Kind, IsLawful, sets, Stay}
 use Rattle.dt_cells.specs.Standing.{CanStage}
@@ -116,4 +116,13 @@ steps_of k drafted headed staged x changes old new none words has rest = record 
   heads = headed_words drafted headed x old new none words;
   has_heads = λ h. has x (subst (λ (y : Reading). HasHeads old y) (sym (fun_ext (λ a. nothing_laid drafted x a none))) h);
   rest = rest;
+}
+
+-- the empty image is a table of the empty program
+pub first : (k : Kind) (stands : Reading → Held → Type 0) (low : ℕ) → stands blank none_held → IsTableOf k stands low blank none_held empty_program
+first k stands low standing = record {
+  standing = standing;
+  tuples = record { cells = λ q least most. refl; none = λ q h. absurd (h refl) };
+  heads = record { classes = λ class below. refl; selectors = λ s below. refl };
+  strays = λ s below unplaced. refl;
 }

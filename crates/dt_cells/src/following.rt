@@ -1,7 +1,8 @@
-ghost use Rattle.std.specs.Prelude.{◌≡◌, OnOk, OnErr};
+ghost use Rattle.std.specs.Prelude.{◌≡◌, ◌≤◌, IfOk, OnOk, OnErr};
 ghost use Rattle.dt_pages.specs.Reading.{Reading};
 ghost use Rattle.dt_pages.specs.Image.{look_up};
-ghost use Rattle.dt_cells.specs.Held.{Held, after};
+ghost use Rattle.dt_definitions.specs.Program.{empty_program};
+ghost use Rattle.dt_cells.specs.Held.{Held, none_held, after};
 ghost use Rattle.dt_cells.specs.Serving.{Serves};
 ghost use Rattle.dt_cells.specs.Following.{IsTableOf, CanFollow};
 
@@ -9,9 +10,21 @@ use crate::head_words::heads;
 use crate::kind::TableKind;
 use dt_definitions::Program;
 use dt_graph::NoMemory;
-use dt_pages::{Draft, Tree};
+use dt_pages::{Draft, Tree, page_zero_is_empty};
 use dt_scratch::{Change, law_of_cells};
 use std::alloc::Global;
+
+/// The table of the empty program, for queries from this arity on.
+pub fn first_table<K: TableKind>(alloc: Global, least: u8) -> Result<(K, Tree), NoMemory>
+    requires { (1 ≤ least) × (least ≤ K.kind.most_low) }
+    ensures low { IfOk result (λ made. K.low made.0 ≡ least) }
+    ensures table { IfOk result (λ made. IsTableOf K.kind (K.stands made.0) least (look_up made.1) none_held empty_program) }
+{
+    page_zero_is_empty();
+    let kind = K::empty(alloc, least)?;
+    let tree = Tree::new(alloc)?;
+    Ok((kind, tree))
+}
 
 /// The table follows a batch: it was one of the old program, and is one of the new. After want of memory the image is as
 /// it was, and the value stands for what it stood for, so that the table is still one of the old program.

@@ -11,7 +11,7 @@ mod laws;
 mod regions;
 
 pub use cell::{answer_by_word, word_of_answer};
-pub use following::follow;
+pub use following::{first_table, follow};
 pub use head_words::heads;
 pub use kind::TableKind;
 pub use laws::{law_of_kinds, tuples_follow};

@@ -2,7 +2,7 @@
 -- `Reading`, how a word is found from a top page, and which pages are met on the way;
 -- `Image`, the finite map that a tree keeps, its nodes, and how many pages a new image needs beside an old one;
 -- `Reach`, the pages that a top page reaches, as a list; `Laws`, what holds of all these, which the public calls promise;
--- then `ThreeWords` and `Examples`, worked out.
+-- `Draft`, words that are to be set; then `ThreeWords` and `Examples`, worked out. How a tree keeps an image is in `TreeForm`.
 pub mod Reading
 pub mod Image
 pub mod Reach
