@@ -2,7 +2,6 @@
 #![tactic(auto)]
 
 mod all_definitions;
-mod answer_law;
 mod apply_batch;
 mod batch;
 mod causes;
@@ -11,7 +10,6 @@ mod defined;
 mod definition_key;
 mod edit;
 mod kept;
-mod law;
 mod laws;
 mod limits;
 mod naming;
@@ -27,10 +25,6 @@ mod two_programs;
 mod undo;
 mod why;
 
-pub use answer_law::{
-    batches_have_one_answer, batches_make_histories, edits_have_one_answer,
-    new_definitions_take_memory,
-};
 pub use batch::Batch;
 pub use defined::Defined;
 pub use definition_key::DefinitionKey;
@@ -39,11 +33,11 @@ pub use dt_selectors::{
     Arity, BODIES, BodyNo, NAMES, NameFault, Names, SELECTORS, SelNo, SelectorFault,
 };
 pub use edit::Edit;
-pub use law::{
-    batches_are_their_edits, definitions_stand_alone, histories_are_lawful, lawful_programs,
-    steps_keep_law,
+pub use laws::{
+    batches_are_their_edits, batches_differ_where_they_say, batches_have_one_answer,
+    batches_make_histories, definitions_stand_alone, edits_have_one_answer, histories_are_lawful,
+    histories_go_on_by_one, lawful_programs, new_definitions_take_memory, steps_keep_law,
 };
-pub use laws::{batches_differ_where_they_say, histories_go_on_by_one};
 pub use limits::DEFINITIONS;
 pub use parents::Parents;
 pub use program::Program;

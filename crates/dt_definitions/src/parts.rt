@@ -9,7 +9,7 @@ ghost use Rattle.dt_definitions.specs.Memory.{may_want_memory, NoMemoryOnlyWhere
 
 use crate::all_definitions::AllDefinitions;
 use crate::edit::Edit;
-use crate::law::steps_keep_law;
+use crate::laws::steps_keep_law;
 use crate::tuple::Tuple;
 use crate::why::ApplyFault;
 use dt_graph::{ClassGraph, ClassNo};

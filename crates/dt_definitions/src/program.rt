@@ -18,7 +18,7 @@ use crate::defined::Defined;
 use crate::definition_key::DefinitionKey;
 use crate::edit::Edit;
 use crate::kept::Kept;
-use crate::law::steps_keep_law;
+use crate::laws::steps_keep_law;
 use crate::parts::Parts;
 use crate::tuple::Tuple;
 use crate::why::{ApplyFault, BatchFault};

@@ -10,7 +10,6 @@ mod class_no;
 mod class_rows;
 mod class_set;
 mod graph_fault;
-mod law;
 mod laws;
 mod limits;
 mod listed;
@@ -24,11 +23,10 @@ pub use class_graph::ClassGraph;
 pub use class_no::ClassNo;
 pub use class_set::ClassSet;
 pub use graph_fault::GraphFault;
-pub use law::{
-    changes_are_undone, changes_keep_law, graphs_are_shared, refusals_are_needed,
-    what_changes_leave, what_restoring_leaves,
+pub use laws::{
+    changes_are_undone, changes_keep_law, graphs_are_shared, law_of_below, others_stay_below,
+    refusals_are_needed, what_changes_leave, what_restoring_leaves,
 };
-pub use laws::{law_of_below, others_stay_below};
 pub use limits::{CLASSES, PARENTS};
 pub use listed::lists_agree;
 pub use no_memory::NoMemory;

@@ -4,14 +4,12 @@
 mod arg_words;
 mod command;
 mod cut;
-mod ending_laws;
-mod first_laws;
 mod first_script;
+mod laws;
 mod limits;
 mod line;
 mod log;
 mod name_book;
-mod no_script_laws;
 pub mod outside;
 mod perform;
 mod run_script;
@@ -24,10 +22,11 @@ mod words;
 
 pub use arg_words::ArgWords;
 pub use dt_outside::{counts_rise_call_by_call, losses_add_up, prefixes_add_up};
-pub use ending_laws::endings_are_determined;
-pub use first_laws::{one_outcome, one_run, one_script, only_four_refusals};
+pub use laws::{
+    endings_are_determined, first_scripts_are_whole, no_scripts, one_outcome, one_run, one_script,
+    only_four_refusals,
+};
 pub use log::{CallLine, EditLine, Log, PartLog, PhaseLog, Stamped};
-pub use no_script_laws::{first_scripts_are_whole, no_scripts};
 pub use run_script::{Ran, run};
 pub use status::Status;
 pub use turnstile::{OpenTurnstile, Turnstile};

@@ -3,7 +3,7 @@
 
 mod cut;
 mod keyword;
-mod law;
+mod laws;
 mod limits;
 mod line;
 mod line_read;
@@ -16,7 +16,7 @@ mod writing;
 mod written;
 mod written_line;
 
-pub use law::lines_have_one_spelling;
+pub use laws::lines_have_one_spelling;
 pub use limits::SCRIPT_BYTES;
 pub use line::{CallerLine, Line};
 pub use line_read::{LineFault, read_line};

@@ -1,5 +1,0 @@
-use Rattle.dt_selectors.proofs.Arities.{adding, dropping}
-use Rattle.dt_selectors.proofs.law.changes_touch_one_selector.Goals as goal
-
-pub returns : goal.returns
-returns c = record { add = adding; drop = dropping }
