@@ -26,4 +26,6 @@ mod second_look_up;
 #[cfg(test)]
 mod traits;
 #[cfg(test)]
+mod trials;
+#[cfg(test)]
 mod turnstile;
