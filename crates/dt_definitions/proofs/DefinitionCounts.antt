@@ -1,9 +1,6 @@
 -- How many definitions pass a test, after one is placed or taken away.
-use Rattle.std.proofs.Common.{◌≡◌, ℕ, suc, ◌+◌, ◌≤◌, Bool, true, false, cond, not, List, [], ◌∷◌, length, filter, IsTrue, refl, sym, ap, arith}
+use Rattle.std.proofs.Common.{◌≡◌, suc, ◌+◌, Bool, true, false, cond, not, List, [], ◌∷◌, length, filter, IsTrue, refl, sym, ap, arith}
 use Rattle.std.specs.List.{list_any}
-use Rattle.std.specs.Prelude.{nat_lt}
-use Rattle.std.proofs.lemmas.Bool.Decides.{nat_tests}
-use Rattle.dt_graph.specs.Graph.{has_number}
 use Rattle.dt_definitions.specs.Program.{Definition, is_definition, is_definition_before, place_definition}
 use Rattle.dt_definitions.specs.Lawful.{AscendingDefinitions}
 use Rattle.dt_definitions.proofs.DefinitionOrder.{def_before-differs, is_definition-equal, StandsFirst, stands_first-trans, ascending-tail, ascending-first}
@@ -80,17 +77,5 @@ pub length_is_count : (ds : List Definition) → length ds ≡ length (filter (�
 length_is_count [] = refl
 length_is_count (e ∷ ds) = let r = length_is_count ds in omega arith
 
-pub count-le_length : (q : Definition → Bool) (ds : List Definition) → length (filter q ds) ≤ length ds
-count-le_length q [] = omega arith
-count-le_length q (e ∷ ds) = let r = count-le_length q ds in grind arith
-
-pub any_by_count : (q : Definition → Bool) (ds : List Definition) → list_any q ds ≡ nat_lt 0 (length (filter q ds))
-any_by_count q [] = refl
-any_by_count q (e ∷ ds) = let r = any_by_count q ds in grind (arith, nat_tests)
-
 pub all_read_place : ReadsPlace (λ (d : Definition). true)
 all_read_place d e h = refl
-
-pub naming_reads_place : (class : ℕ) → ReadsPlace (λ d. has_number d.classes class)
-naming_reads_place class d e h =
-    ap (λ classes. has_number classes class) (is_definition-equal d.selector d.classes e h).1

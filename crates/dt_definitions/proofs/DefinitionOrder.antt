@@ -2,7 +2,8 @@
 use Rattle.std.proofs.Common.{◌≡◌, ℕ, Bool, true, false, List, [], ◌∷◌, filter, IsTrue, refl, sym, ◌∙◌, arith, eqb}
 use Rattle.std.proofs.lemmas.Bool.{and_parts, eqb-true, false≢true}
 use Rattle.std.proofs.lemmas.Bool.Decides.{nat_tests}
-use Rattle.dt_definitions.specs.Program.{Definition, same_classes, is_definition, is_definition_before, place_definition, DefinitionKey, key_of, is_key_before, is_same_key}
+use Rattle.dt_definitions.specs.Program.{Definition, same_classes, is_definition, is_definition_before, place_definition, key_of, is_key_before, is_same_key}
+use Rattle.dt_definitions.specs.declared.definition_key.DefinitionKey.{DefinitionKey}
 use Rattle.dt_graph.specs.InOrder.{StrictOrder}
 use Rattle.dt_graph.proofs.InOrder.{Ascends-tail, Ascends-place, Ascends-filter}
 use Rattle.dt_definitions.specs.Lawful.{AscendingDefinitions}

@@ -5,7 +5,7 @@ use Rattle.std.specs.Option.{option_map}
 use Rattle.std.proofs.lemmas.Bool.{false≢true}
 use Rattle.dt_definitions.specs.Program.{Definition, is_definition, is_definition_before, place_definition, body_of, key_of, is_key_before, is_same_key}
 use Rattle.dt_definitions.specs.Lawful.{AscendingDefinitions}
-use Rattle.dt_definitions.specs.DefinitionRows.{Definitions, HasRoomFor}
+use Rattle.dt_definitions.specs.SelectorLists.{Definitions, HasRoomFor}
 use Rattle.dt_definitions.specs.Undo.{restore_definition}
 use Rattle.dt_definitions.proofs.DefinitionOrder.{key_order, is_definition-refl}
 use Rattle.dt_graph.proofs.InOrder.{found_key, placing-undone, removing-undone}

@@ -9,7 +9,8 @@ use Rattle.dt_graph.specs.LinkChanges.{OthersKeepTheirLinks}
 use Rattle.dt_graph.proofs.Effects.{links_after_add, links_after_drop, links_after_link, links_after_unlink}
 use Rattle.dt_graph.proofs.ListMembers.{In-from_Contains, Contains-from_In, In-filter, In-from_filter}
 use Rattle.dt_graph.proofs.PlacedMembers.{In-place, In-from_place}
-use Rattle.dt_definitions.specs.Program.{Definition, DefinitionKey, Program, is_definition, place_definition, key_of, is_key_before, is_same_key}
+use Rattle.dt_definitions.specs.Program.{Definition, Program, is_definition, place_definition, key_of, is_key_before, is_same_key}
+use Rattle.dt_definitions.specs.declared.definition_key.DefinitionKey.{DefinitionKey}
 use Rattle.dt_definitions.specs.Lawful.{Lawful, IsInRange}
 use Rattle.dt_definitions.specs.Laws.{LeadsTo}
 use Rattle.dt_definitions.specs.Step.{effect, step}

@@ -1,12 +1,14 @@
 pub mod ClassOrder
 pub mod Searching
-pub mod RowOrder
+pub mod ListOrder
 pub mod DefinitionOrder
 pub mod Placing
 pub mod DefinedOnce
 pub mod DefinitionCounts
-pub mod Rows
-pub mod TableChanges
+pub mod Keys
+pub mod NamingLists
+pub mod Lists
+pub mod DefinitionChanges
 pub mod Steps
 pub mod LawfulSteps
 pub mod SelectorUndo

@@ -1,7 +1,7 @@
 -- Worked examples of answers: what those of edits and of batches tell, and where they may be want of memory.
 use Rattle.std.specs.Prelude.{◌≡◌, true, false, List, [], ◌∷◌, Ok, Err, refl}
 use Rattle.dt_definitions.specs.Program.{empty_program}
-use Rattle.dt_definitions.specs.DefinitionRows.{definition_of, with_selector}
+use Rattle.dt_definitions.specs.SelectorLists.{definition_of, with_selector}
 use Rattle.dt_definitions.specs.Step.{and_then, stepped, after_from, Applies, AppliesBatch}
 use Rattle.dt_definitions.specs.Memory.{batch_may_want_memory, NoMemoryOnlyWhere, BatchNoMemoryOnlyWhere}
 use Rattle.dt_definitions.specs.Laws.{LeadsTo}

@@ -2,7 +2,8 @@
 use Rattle.std.specs.Prelude.{◌≡◌, ◌↔◌, ℕ, Bool, false, List, [], ◌∷◌, ◌++◌}
 use Rattle.std.specs.List.{Contains, list_any}
 use Rattle.dt_graph.specs.LinkChanges.{OthersKeepTheirLinks}
-use Rattle.dt_definitions.specs.Program.{Definition, DefinitionKey, Program, is_definition}
+use Rattle.dt_definitions.specs.Program.{Definition, Program, is_definition}
+use Rattle.dt_definitions.specs.declared.definition_key.DefinitionKey.{DefinitionKey}
 use Rattle.dt_definitions.specs.declared.edit.Edit.{Edit}
 use Rattle.dt_definitions.specs.declared.edit.Edit.TheVariants.{AddClass, DropClass, Link, Unlink, AddSelector, DropSelector, Define, Undefine}
 

@@ -1,7 +1,7 @@
 -- Worked examples of places, of the order of definitions, and of when an edit takes memory.
 use Rattle.std.specs.Prelude.{◌≡◌, ℕ, true, false, List, [], ◌∷◌, None, Some, Err, refl}
 use Rattle.dt_definitions.specs.Program.{Definition, Program, empty_program, arity_of, same_classes, are_classes_before, is_definition, is_definition_before, place_definition, definitions_of, body_of}
-use Rattle.dt_definitions.specs.Place.{at_place}
+use Rattle.dt_definitions.specs.Nth.{nth}
 use Rattle.dt_definitions.specs.Step.{is_named, is_defined, has_definition, arity_differs, refusal, effect, step_from, stepped, after, fault_at, why_of}
 use Rattle.dt_definitions.specs.Memory.{may_want_memory, batch_may_want_memory}
 use Rattle.dt_graph.specs.declared.graph_fault.GraphFault.TheVariants as fault
@@ -15,16 +15,16 @@ at selector classes body = record { selector = selector; classes = classes; body
 
 -- ---- places, from 1
 
-no_place_zero : at_place {T = ℕ} (7 ∷ 8 ∷ []) 0 ≡ None
+no_place_zero : nth {T = ℕ} (7 ∷ 8 ∷ []) 0 ≡ None
 no_place_zero = refl
 
-the_first_place : at_place {T = ℕ} (7 ∷ 8 ∷ []) 1 ≡ Some 7
+the_first_place : nth {T = ℕ} (7 ∷ 8 ∷ []) 1 ≡ Some 7
 the_first_place = refl
 
-the_last_place : at_place {T = ℕ} (7 ∷ 8 ∷ []) 2 ≡ Some 8
+the_last_place : nth {T = ℕ} (7 ∷ 8 ∷ []) 2 ≡ Some 8
 the_last_place = refl
 
-behind_the_last_place : at_place {T = ℕ} (7 ∷ 8 ∷ []) 3 ≡ None
+behind_the_last_place : nth {T = ℕ} (7 ∷ 8 ∷ []) 3 ≡ None
 behind_the_last_place = refl
 
 -- ---- lists of classes

@@ -4,6 +4,7 @@ use Rattle.std.specs.Option.{option_map}
 use Rattle.dt_graph.specs.InOrder.{place}
 use Rattle.dt_graph.specs.Graph.{Graph, empty_graph}
 use Rattle.dt_selectors.specs.Selectors.{Selector, arity_in}
+use Rattle.dt_definitions.specs.declared.definition_key.DefinitionKey.{DefinitionKey}
 
 -- a selector is defined at a list of classes, one for each argument, by a body
 pub record Definition : Type 0 where
@@ -48,11 +49,7 @@ abbrev pub is_definition_before : Definition → Definition → Bool
 is_definition_before a b =
     nat_lt a.selector b.selector || ((a.selector == b.selector) && are_classes_before a.classes b.classes)
 
--- where a definition stands: its selector and its classes
-pub record DefinitionKey : Type 0 where
-  pub selector : ℕ
-  pub classes : List ℕ
-
+-- where a definition stands
 abbrev pub key_of : Definition → DefinitionKey
 key_of d = record { selector = d.selector; classes = d.classes }
 

@@ -5,7 +5,7 @@ use Rattle.dt_graph.specs.Parents.{parents_of}
 use Rattle.dt_graph.specs.Restore.{restore_effect}
 use Rattle.dt_selectors.specs.Selectors.{Selector, place_selector, without_selector}
 use Rattle.dt_definitions.specs.Program.{Definition, Program, arity_of, is_definition, place_definition, body_of}
-use Rattle.dt_definitions.specs.DefinitionRows.{Definitions, HasRoomFor}
+use Rattle.dt_definitions.specs.SelectorLists.{Rooms, Definitions, HasRoomFor}
 use Rattle.dt_definitions.specs.Lawful.{Lawful}
 use Rattle.dt_definitions.specs.Step.{with_graph, with_selectors, with_definitions}
 use Rattle.dt_definitions.specs.declared.edit.Edit.{Edit}
@@ -69,7 +69,7 @@ StaysLawful p [] = Unit {0}
 StaysLawful p (last ∷ earlier) = Lawful (restored p last) × StaysLawful (restored p last) earlier
 
 -- each time that the last is restored the definitions, with this much room, have room for it
-abbrev pub HasRooms : List ℕ → Program → List Kept → Type 0
+abbrev pub HasRooms : Rooms → Program → List Kept → Type 0
 HasRooms rooms p [] = Unit {0}
 HasRooms rooms p (last ∷ earlier) =
     HasRoom (record { all = p.definitions; rooms = rooms }) last × HasRooms rooms (restored p last) earlier

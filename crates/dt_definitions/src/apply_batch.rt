@@ -68,4 +68,31 @@ impl Parts {
             }
         }
     }
+
+    /// Gives back the memory that the lists which the edit touched leave unused. It comes where no undo is wanted any
+    /// more, since undoing needs the room.
+    pub(crate) fn give_back(&mut self, edit: &Edit)
+        ensures { program_of self.new ≡ program_of self.old }
+    {
+        match edit {
+            Edit::Define {
+                selector,
+                classes,
+                ..
+            } => self.definitions.give_back(*selector, classes.classes()),
+            Edit::Undefine { selector, classes } => {
+                self.definitions.give_back(*selector, classes.classes());
+            }
+            _ => {}
+        }
+    }
+
+    /// The same for all edits of the batch.
+    pub(crate) fn give_back_all(&mut self, batch: &Batch)
+        ensures { program_of self.new ≡ program_of self.old }
+    {
+        for edit in batch.as_slice() {
+            self.give_back(edit);
+        }
+    }
 }

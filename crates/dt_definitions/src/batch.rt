@@ -1,7 +1,7 @@
 ghost use Rattle.std.specs.Prelude.{◌≡◌, ◌^◌, ◌<◌, ◌≤◌, ◌==◌, [], ◌∷◌, ◌++◌, length, IfOk, IfErr, OnOk, OnErr};
 ghost use Rattle.std.specs.Option.{option_copied};
 ghost use Rattle.dt_definitions.specs.Laws.{AreInRange};
-ghost use Rattle.dt_definitions.specs.Place.{at_place};
+ghost use Rattle.dt_definitions.specs.Nth.{nth};
 
 use crate::edit::Edit;
 use dt_graph::NoMemory;
@@ -65,7 +65,7 @@ impl Batch {
 
     /// The edit at this place, from 1; `None` exactly where there is no such place.
     pub fn edit(&self, place: u32) -> Option<&Edit>
-        ensures { option_copied result ≡ at_place self.now place }
+        ensures { option_copied result ≡ nth self.now place }
     {
         let place = place.checked_sub(1)?;
         self.edits.get(place as usize)

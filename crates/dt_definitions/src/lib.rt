@@ -1,22 +1,26 @@
 //! Programs of classes, selectors and definitions, and the edits that change them.
 #![tactic(auto)]
 
+mod all_definitions;
 mod answer_law;
 mod apply_batch;
 mod batch;
 mod causes;
+mod class_order;
 mod defined;
-mod definition_table;
+mod definition_key;
 mod edit;
 mod kept;
 mod law;
 mod laws;
 mod limits;
+mod naming;
+mod naming_index;
 mod parents;
 mod parts;
 mod program;
 mod refusal;
-mod row;
+mod selector_definitions;
 mod sharing;
 mod tuple;
 mod two_programs;
@@ -29,6 +33,7 @@ pub use answer_law::{
 };
 pub use batch::Batch;
 pub use defined::Defined;
+pub use definition_key::DefinitionKey;
 pub use dt_graph::{CLASSES, ClassGraph, ClassNo, GraphFault, NoMemory, PARENTS};
 pub use dt_selectors::{
     Arity, BODIES, BodyNo, NAMES, NameFault, Names, SELECTORS, SelNo, SelectorFault,

@@ -2,12 +2,12 @@ ghost use Rattle.std.specs.Prelude.{◌≡◌, false, OnOk};
 ghost use Rattle.dt_definitions.specs.Parts.{program_of};
 ghost use Rattle.dt_definitions.specs.Lawful.{Lawful};
 ghost use Rattle.dt_definitions.specs.Undo.{kept_of, restored, HasRoom};
-ghost use Rattle.dt_definitions.specs.DefinitionRows.{HasRoomFor, RoomStays};
+ghost use Rattle.dt_definitions.specs.SelectorLists.{HasRoomFor, RoomStays};
 ghost use Rattle.dt_definitions.specs.declared.edit.Edit.{Edit};
 ghost use Rattle.dt_definitions.specs.Step.{Applies};
 ghost use Rattle.dt_definitions.specs.Memory.{may_want_memory, NoMemoryOnlyWhere};
 
-use crate::definition_table::DefinitionTable;
+use crate::all_definitions::AllDefinitions;
 use crate::edit::Edit;
 use crate::law::steps_keep_law;
 use crate::tuple::Tuple;
@@ -20,7 +20,7 @@ use dt_selectors::{Arity, BodyNo, SelNo, Selectors};
 pub(crate) struct Parts {
     pub(crate) graph: ClassGraph,
     pub(crate) selectors: Selectors,
-    pub(crate) definitions: DefinitionTable,
+    pub(crate) definitions: AllDefinitions,
 }
 
 impl Parts {

@@ -3,17 +3,19 @@ ghost use Rattle.std.specs.Option.{option_map};
 ghost use Rattle.dt_graph.specs.Graph.{is_live};
 ghost use Rattle.dt_graph.specs.Below.{HasNoCycle};
 ghost use Rattle.dt_graph.specs.declared.limits.TheConstants.{CLASSES};
-ghost use Rattle.dt_definitions.specs.Program.{empty_program, arity_of, definitions_of, is_definition};
+ghost use Rattle.dt_definitions.specs.Program.{empty_program, arity_of, definitions_of, is_definition, body_of};
+ghost use Rattle.dt_definitions.specs.Naming.{naming};
 ghost use Rattle.dt_definitions.specs.Lawful.{Lawful};
-ghost use Rattle.dt_definitions.specs.DefinitionRows.{with_selector};
-ghost use Rattle.dt_definitions.specs.Place.{at_place};
+ghost use Rattle.dt_definitions.specs.SelectorLists.{with_selector};
+ghost use Rattle.dt_definitions.specs.Nth.{nth};
 ghost use Rattle.dt_definitions.specs.Step.{Applies, step_batch, AppliesBatch};
 ghost use Rattle.dt_definitions.specs.Undo.{LeadsBack, StaysLawful, undone};
 ghost use Rattle.dt_definitions.specs.Memory.{may_want_memory, batch_may_want_memory, NoMemoryOnlyWhere, BatchNoMemoryOnlyWhere};
 
+use crate::all_definitions::AllDefinitions;
 use crate::batch::Batch;
 use crate::defined::Defined;
-use crate::definition_table::DefinitionTable;
+use crate::definition_key::DefinitionKey;
 use crate::edit::Edit;
 use crate::kept::Kept;
 use crate::law::steps_keep_law;
@@ -26,6 +28,11 @@ use std::alloc::Global;
 use std::marker::Model;
 
 /// A program: its classes, its selectors, and what the selectors are defined to do at which classes.
+///
+/// What classes and selectors need is taken once, by [`Program::new`]. The definitions take memory in proportion to
+/// those alive, whatever came before: a definition stands in the list of its selector and in that of each class that it
+/// names, and after an edit or a batch, accepted or refused, each list that it touched has room for at most 4 n + 3
+/// where it holds n. Where the smaller block isn't found the list keeps its room until an edit touches it again.
 #[derive(Debug, Drop)]
 pub struct Program {
     parts: Parts,
@@ -45,7 +52,7 @@ impl Model for Program {
 
 impl Program {
     /// The program with nothing in it. What classes and selectors will ever need is taken here; [`NoMemory`] where none
-    /// was found.
+    /// was found. The time and the memory are in proportion to the limits of classes and selectors.
     pub fn new(alloc: Global) -> Result<Program, NoMemory>
         ensures { IfOk result (λ program. program ≡ empty_program) }
     {
@@ -53,12 +60,13 @@ impl Program {
         let parts = Parts {
             graph: ClassGraph::new(alloc)?,
             selectors: Selectors::new(alloc)?,
-            definitions: DefinitionTable::new(alloc)?,
+            definitions: AllDefinitions::new(alloc)?,
         };
         Ok(Program { parts })
     }
 
-    /// An equal program, with memory of its own; [`NoMemory`] where none was found.
+    /// An equal program, with memory of its own; [`NoMemory`] where none was found. It isn't `Clone`, since memory may be
+    /// wanting. It costs as much as [`Program::new`], and more in proportion to the definitions.
     pub fn copy(&self) -> Result<Program, NoMemory>
         ensures { IfOk result (λ program. program ≡ self.now) }
     {
@@ -70,21 +78,21 @@ impl Program {
         Ok(Program { parts })
     }
 
-    /// Whether the class is live.
+    /// Whether the class is live. It costs the same in every program.
     pub fn is_live(&self, class: ClassNo) -> bool
         ensures { result ≡ is_live self.now.graph class }
     {
         self.parts.graph.is_live(class)
     }
 
-    /// How many arguments the selector takes; `None` exactly where it isn't live.
+    /// How many arguments the selector takes; `None` exactly where it isn't live. It costs the same in every program.
     pub fn arity(&self, selector: SelNo) -> Option<Arity>
         ensures { result ≡ arity_of self.now selector }
     {
         self.parts.selectors.arity(selector)
     }
 
-    /// How many definitions there are, at most [`DEFINITIONS`](crate::DEFINITIONS).
+    /// How many definitions there are, at most [`DEFINITIONS`](crate::DEFINITIONS). It costs the same in every program.
     pub fn definitions(&self) -> u32
         ensures { result ≡ length self.now.definitions }
     {
@@ -110,17 +118,33 @@ impl Program {
         self.parts.graph.law();
     }
 
-    /// The definitions of the selector, in ascending order of their classes.
+    /// The definitions of the selector, in ascending order of their classes. It costs the same in every program.
     pub fn definitions_of(&self, selector: SelNo) -> &[Defined]
         ensures { with_selector selector result.now ≡ definitions_of self.now selector }
     {
         self.parts.definitions.of(selector)
     }
 
+    /// The body of the selector at these classes; `None` exactly where it isn't defined there. The selector's definitions
+    /// are searched by halves.
+    pub fn body(&self, selector: SelNo, classes: &[ClassNo]) -> Option<BodyNo>
+        ensures { result ≡ body_of self.now.definitions selector classes.now }
+    {
+        self.parts.definitions.body(selector, classes)
+    }
+
+    /// Where the definitions that name the class stand, each once, in ascending order of selector, then classes. It costs
+    /// the same in every program.
+    pub fn naming(&self, class: ClassNo) -> &[DefinitionKey]
+        ensures { result.now ≡ naming self.now.definitions class }
+    {
+        self.parts.definitions.naming(class)
+    }
+
     /// The definition at this place, from 1, among those of the selector; `None` exactly where there is no such place.
     pub fn of_selector(&self, selector: SelNo, place: u32) -> Option<(&Tuple, BodyNo)>
         ensures { option_map (λ found. record { selector = selector; classes = found.0.now; body = found.1 }) result
-            ≡ at_place (definitions_of self.now selector) place }
+            ≡ nth (definitions_of self.now selector) place }
     {
         let place = place.checked_sub(1)?;
         let defined = self.definitions_of(selector).get(place as usize)?;
@@ -129,6 +153,10 @@ impl Program {
 
     /// The program after the edit, or the first cause for which it is refused. After a refusal or want of memory
     /// the program is as it was. Only a definition that isn't refused and isn't there yet takes memory.
+    ///
+    /// An edit of classes costs what that of [`ClassGraph`] does, and one of selectors the same in every program. `Define`
+    /// and `Undefine` search the list of the selector, and those of the classes that they name, by halves, and move what
+    /// stands behind in each; it grows with the length of these lists, and with nothing else.
     ///
     /// The causes, in order:
     /// - `AddClass`: the class is live; there are more than 16 parents; a parent isn't live (the first); a parent
@@ -147,7 +175,9 @@ impl Program {
         ensures applies { Applies self.old edit.now self.new result }
         ensures memory { NoMemoryOnlyWhere (may_want_memory self.old edit.now) result }
     {
-        self.parts.apply(edit)
+        let answer = self.parts.apply(edit);
+        self.parts.give_back(edit);
+        answer
     }
 
     /// The program after all edits of the batch in order, or the first edit that is refused, by its place from 1 and
@@ -160,7 +190,16 @@ impl Program {
         ensures applies { AppliesBatch self.old batch.now self.new result }
         ensures memory { BatchNoMemoryOnlyWhere (batch_may_want_memory self.old batch.now) result }
     {
-        self.parts.apply_batch(batch)
+        let answer = self.parts.apply_batch(batch);
+        self.parts.give_back_all(batch);
+        answer
+    }
+
+    /// Gives back the memory that the lists which the batch touched leave unused. No undo may be wanted any more.
+    pub(crate) fn give_back(&mut self, batch: &Batch)
+        ensures { self.new ≡ self.old }
+    {
+        self.parts.give_back_all(batch);
     }
 
     /// As [`Program::apply_batch`], with what undoes it.

@@ -1,5 +1,5 @@
 ghost use Rattle.std.specs.Prelude.{◌≡◌, ◌<◌, ◌≤◌};
-ghost use Rattle.dt_definitions.specs.Refusals.{number_of, word_of, class_of};
+ghost use Rattle.dt_definitions.specs.RefusalWords.{number_of, word_of, class_of};
 
 use crate::why::{ApplyFault, BatchFault, Why};
 use dt_graph::ClassNo;

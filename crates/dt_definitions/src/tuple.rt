@@ -1,6 +1,6 @@
 ghost use Rattle.std.specs.Prelude.{◌≡◌, ◌<◌, ◌≤◌, length};
 ghost use Rattle.std.specs.Option.{SomeIff};
-ghost use Rattle.dt_definitions.specs.Place.{at_place};
+ghost use Rattle.dt_definitions.specs.Nth.{nth};
 
 use dt_graph::ClassNo;
 use std::marker::Model;
@@ -58,7 +58,7 @@ impl Tuple {
 
     /// The class at this place, from 1; `None` exactly where there is no such place.
     pub fn class(&self, place: u8) -> Option<ClassNo>
-        ensures { result ≡ at_place self.now place }
+        ensures { result ≡ nth self.now place }
     {
         let place = usize::from(place).checked_sub(1)?;
         self.classes().get(place).copied()

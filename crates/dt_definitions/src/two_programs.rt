@@ -53,7 +53,7 @@ impl Model for TwoPrograms {
 
 impl TwoPrograms {
     /// Two programs with nothing in them. [`NoMemory`] where none was found for the first; the second is made where a
-    /// batch is first tried.
+    /// batch is first tried. It costs what [`Program::new`] does.
     pub fn new(alloc: Global) -> Result<TwoPrograms, NoMemory>
         ensures { IfOk result (λ two. IsSettledAt empty_program two) }
     {
@@ -90,7 +90,10 @@ impl TwoPrograms {
     {
         match mem::replace(&mut self.second, Second::Gone) {
             Second::Behind { mut program, batch } => match program.apply_batch(&batch) {
-                Ok(()) => Ok(program),
+                Ok(()) => {
+                    self.stands.give_back(&batch);
+                    Ok(program)
+                }
                 Err(_) => {
                     self.second = Second::Behind { program, batch };
                     Err(NoMemory)
@@ -103,6 +106,10 @@ impl TwoPrograms {
 
     /// Tries the batch on the second program, as [`Program::apply_batch`] does: it is the new program, or the first edit
     /// that is refused. The old program stays. After a refusal or want of memory both are as they were.
+    ///
+    /// The second program is brought up with the batch that was last accepted first, so it costs what the two batches
+    /// cost, each on one program. Memory may be wanted for the definitions of both and for the room to undo them, and at
+    /// the first try for the second program.
     pub fn try_batch(&mut self, batch: Batch) -> Result<(), BatchFault>
         requires { IsSettledAt self.old.stands self.old }
         ensures applies { AppliesBatch self.old.stands batch self.new.tried result }
@@ -121,6 +128,7 @@ impl TwoPrograms {
                 Ok(())
             }
             Err(fault) => {
+                program.give_back(&batch);
                 self.second = Second::Behind {
                     program,
                     batch: Batch::new(self.alloc),
@@ -144,17 +152,19 @@ impl TwoPrograms {
         }
     }
 
-    /// The old program stands on. It takes no memory: what the batch changed in the second program is restored.
+    /// The old program stands on. It takes no memory: what the batch changed in the second program is restored, at the
+    /// cost of the batch.
     pub fn refuse(&mut self)
         ensures { IsSettledAt self.old.stands self.new }
     {
         match mem::replace(&mut self.second, Second::Gone) {
             Second::Tried {
                 mut program,
+                batch,
                 kept,
-                ..
             } => {
                 if program.undo(kept).is_ok() {
+                    program.give_back(&batch);
                     self.second = Second::Behind {
                         program,
                         batch: Batch::new(self.alloc),

@@ -2,9 +2,9 @@ ghost use Rattle.std.specs.Prelude.{◌≡◌, ◌≤◌, length, reverse, IsOk,
 ghost use Rattle.dt_definitions.specs.Parts.{program_of};
 ghost use Rattle.dt_definitions.specs.Lawful.{Lawful};
 ghost use Rattle.dt_definitions.specs.Undo.{class_in, selector_in, definition_in, kept_of, restore_selector, restore_definition, restored, undone, HasRoom, StaysLawful, HasRooms};
-ghost use Rattle.dt_definitions.specs.DefinitionRows.{HasRoomFor, RoomStays};
+ghost use Rattle.dt_definitions.specs.SelectorLists.{HasRoomFor, RoomStays};
 
-use crate::definition_table::DefinitionTable;
+use crate::all_definitions::AllDefinitions;
 use crate::edit::Edit;
 use crate::kept::Kept;
 use crate::limits::DEFINITIONS;
@@ -26,7 +26,7 @@ fn restore_selector(selectors: &mut Selectors, selector: SelNo, arity: Option<Ar
 
 /// The selector has this body at these classes again, or isn't defined there again.
 fn restore_definition(
-    definitions: &mut DefinitionTable,
+    definitions: &mut AllDefinitions,
     selector: SelNo,
     classes: &Tuple,
     body: Option<BodyNo>,

@@ -100,12 +100,16 @@ module _ {M I : Type 0} where
       let kept = record author { polls = author.polls ++ (root, exits) ∷ [] } in
       poll_finds (with_new_sweep kept root) root exits (root_at author root).standing
 
+  -- a reader seat is given out
+  abbrev pub after_seat_out : Author M I → Author M I
+  after_seat_out author = record author { out = author.out + 1 }
+
   -- a note is given back to the author: it keeps both histories, and has the longer one
   abbrev pub after_hear : Author M I → List I → Author M I
   after_hear author history =
       record author { history = longer author.history history; joined = (author.history, history) }
 
-  -- a reader seat is: the author also keeps what the seat entered, and its worn looks
+  -- a reader seat is given back: the author also keeps what the seat entered, and its worn looks
   abbrev pub after_seat_back : Author M I → Seat M I → Author M I
   after_seat_back author seat = record (after_hear author seat.history) {
     taken = author.taken ++ seat.entered ∷ [];

@@ -13,7 +13,7 @@ use Rattle.dt_gate.specs.declared.gate.Seat.{Seat}
 use Rattle.dt_gate.specs.declared.gate.Stage.{Stage}
 use Rattle.dt_gate.specs.declared.gate.Stage.TheVariants.{Out, Near, In, Note, Spent}
 use Rattle.dt_gate.specs.Gate.{Bounds, IsOld, root_at, exits_at, seat_at, spent}
-use Rattle.dt_gate.specs.Author.{MayFill, after_fill, MayLay, after_lay, MayPublish, after_publish, after_poll, after_hear, after_seat_back}
+use Rattle.dt_gate.specs.Author.{MayFill, after_fill, MayLay, after_lay, MayPublish, after_publish, after_poll, after_seat_out, after_hear, after_seat_back}
 use Rattle.dt_gate.specs.Seats.{IsReader, IsInside, IsFrozenWord, after_look, after_enter, given, after_hearing}
 
 -- the exits after a word was laid
@@ -88,7 +88,7 @@ module _ {M I : Type 0} where
   }
   step bounds gate (Poll root) = record gate { author = after_poll gate.author root (exits_at gate root) }
   step bounds gate SeatOut = record gate {
-    author = record gate.author { out = gate.author.out + 1 };
+    author = after_seat_out gate.author;
     seats = gate.seats ++ given Out gate.author.history ∷ [];
   }
   step bounds gate (NoteOut giver) = record gate { seats = gate.seats ++ given Note (history_of gate giver) ∷ [] }

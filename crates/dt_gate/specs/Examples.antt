@@ -9,10 +9,31 @@ use Rattle.dt_gate.specs.declared.event.RecordWord.TheVariants as laid
 use Rattle.dt_gate.specs.declared.gate.Gate.{Gate}
 use Rattle.dt_gate.specs.declared.gate.Stage.TheVariants.{Out, Spent}
 use Rattle.dt_gate.specs.declared.gate.Standing.TheVariants.{Free, Now, Old}
-use Rattle.dt_gate.specs.Gate.{Bounds, bounds_of, root_at, seat_at, fresh}
+use Rattle.dt_gate.specs.Gate.{Bounds, bounds_of, blank_root, root_at, seat_at, fresh}
 use Rattle.dt_gate.specs.Readers.{word_now}
 use Rattle.dt_gate.specs.Runs.{after, AreAllowed}
 use Rattle.dt_gate.specs.WrongMachines.{small, start, anything, laying, one_inside_an_old_root}
+
+-- one reader, no pages
+the_fresh_gate : fresh {M = ℕ} {I = ℕ} (bounds_of 1 0 5) ≡ record {
+  entries = 0;
+  exits = 0 ∷ 0 ∷ 0 ∷ [];
+  author = record {
+    current = 0;
+    roots = record blank_root { standing = Now } ∷ blank_root ∷ blank_root ∷ [];
+    words = [];
+    history = [];
+    out = 0;
+    held = [];
+    sweep = 0;
+    polls = [];
+    taken = [];
+    worn = [];
+    joined = ([], []);
+  };
+  seats = [];
+}
+the_fresh_gate = refl
 
 -- one reader looks and enters, a version is published, and the old root is polled
 abbrev pub polled_held : List (Event ℕ ℕ)

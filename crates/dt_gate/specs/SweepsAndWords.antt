@@ -1,12 +1,14 @@
 -- Sweeps of the busy gate and of gates that differ from it in one thing, and the words of the busy gate.
-use Rattle.std.specs.Prelude.{◌≡◌, ℕ, ◌+◌, ◌^◌, ◌≤◌, Bool, true, false, List, [], ◌∷◌, refl}
+use Rattle.std.specs.Prelude.{◌≡◌, ℕ, zero, suc, ◌+◌, ◌^◌, ◌<◌, ◌≤◌, Bool, true, false, List, [], ◌∷◌, refl}
 use Rattle.std.proofs.Common.{arith, inl, inr}
+use Rattle.std.proofs.lemmas.Bool.Decides.{nat_tests}
 use Rattle.dt_gate.specs.declared.access.Access.TheVariants.{Load, Add, Store, Swap}
 use Rattle.dt_gate.specs.declared.event.Event.TheVariants.{Look, Enter, Read, Leave, Fill, Lay, Publish, Poll}
 use Rattle.dt_gate.specs.declared.event.ReadWord.TheVariants as read
 use Rattle.dt_gate.specs.declared.event.RecordWord.TheVariants.{Top}
 use Rattle.dt_gate.specs.declared.gate.Author.{Author}
 use Rattle.dt_gate.specs.declared.gate.Standing.TheVariants.{Free}
+use Rattle.dt_gate.specs.Gate.{root_at, is_old, stands_in}
 use Rattle.dt_gate.specs.Sweeps.{after_polls, MayBeginASweep, IsOfASweep, LeavesRoom}
 use Rattle.dt_gate.specs.Words.{words_of, access_of, accessed, found}
 use Rattle.dt_gate.specs.Busy.{two, zeros, busy, busy_author, old_root, current_root}
@@ -22,8 +24,26 @@ three_old = record busy_author {
   polls = [];
 }
 
+-- the polls of a whole sweep
+abbrev reads : List (ℕ × ℕ)
+reads = (0, 1) ∷ (2, 2) ∷ (3, 1) ∷ []
+
+-- a number past these is none of them
+past : (number : ℕ) → 3 < number → ¬ (stands_in number (0 ∷ 2 ∷ 3 ∷ []) ≡ true)
+past number far is = grind (arith, nat_tests)
+
+they_are_of_a_sweep : IsOfASweep three_old reads
+they_are_of_a_sweep = record { begins = inl refl; old = old; once = (refl, (refl, (refl, tt))) }
+  where
+    old : (root : ℕ) → stands_in root (0 ∷ 2 ∷ 3 ∷ []) ≡ true → is_old (root_at three_old root).standing ≡ true
+    old zero is = refl
+    old (suc zero) is = let never : ◌≡◌ {A = Bool} false true = is in cc
+    old (suc (suc zero)) is = refl
+    old (suc (suc (suc zero))) is = refl
+    old (suc (suc (suc (suc root)))) is = absurd (past (suc (suc (suc (suc root)))) (omega arith) is)
+
 -- two have left root 2, and one each of the others: root 2 is free, the others are held, and the count is of the readers out now
-a_whole_sweep : after_polls three_old ((0, 1) ∷ (2, 2) ∷ (3, 1) ∷ []) ≡ record three_old {
+a_whole_sweep : after_polls three_old reads ≡ record three_old {
   roots = old_root ∷ current_root ∷ record old_root { version = 5; standing = Free } ∷ record old_root { version = 6 } ∷ [];
   held = 0 ∷ 3 ∷ [];
   sweep = 2;

@@ -4,7 +4,7 @@ use Rattle.std.proofs.lemmas.Bool.{cases_eq, cases_lt, cond-true, cond-false, an
 use Rattle.std.proofs.lemmas.List.{get_or_default, get_or-set_same, get_or-set_other, length-set}
 use Rattle.dt_graph.specs.Graph.{has_number}
 use Rattle.dt_graph.specs.Lawful.{AscendingNumbers}
-use Rattle.dt_graph.specs.ClassSet.{first_from}
+use Rattle.dt_graph.specs.FirstFrom.{first_from}
 use Rattle.dt_graph.specs.Ancestry.{row_has}
 use Rattle.dt_graph.proofs.AscendingSets.{IsFirstFrom, first_some, first_none, and_true}
 

@@ -1,10 +1,10 @@
 -- Ascending lists as sets: lists with the same numbers are equal, and the first number from a bound on.
 use Rattle.std.proofs.Common.{◌≡◌, ◌==◌, ℕ, ◌+◌, ◌<◌, ◌≤◌, Bool, true, false, ◌&&◌, ◌||◌, IsTrue, nat_le, List, [], ◌∷◌, ◌++◌, None, Some, All, filter, refl, sym, ap, ◌∙◌, ⊎_elim, arith, eq-eqb, ne_eqb, eqb-true, ltb-true, inl, inr, append_assoc, append-nil}
 use Rattle.std.proofs.lemmas.Bool.{or_cases, or_left, or_right, or_parts, or_from, cases_Bool, cases_eq, cases_order, cond-true, cond-false, false≢true, true≢false, false_from_ne_true, le-leb, lt-leb, leb-true, leb-false}
-use Rattle.std.proofs.lemmas.List.Elements.{All-head, All-tail}
 use Rattle.dt_graph.specs.Graph.{has_number}
 use Rattle.dt_graph.specs.Lawful.{AscendingNumbers}
-use Rattle.dt_graph.specs.ClassSet.{first_from}
+use Rattle.dt_graph.specs.FirstFrom.{first_from}
+use Rattle.dt_graph.proofs.LinkLists.{each_number}
 use Rattle.dt_graph.proofs.Ascending.{first_is_lowest}
 
 -- two truth values that follow from each other are equal
@@ -105,19 +105,10 @@ first_some (a ∷ numbers) least number ascending found =
     ]
 
 -- the first number lies between the bound and the limit of all numbers
-pub first_bounds : (numbers : List ℕ) (least number limit : ℕ) → All (λ n. n < limit) numbers → first_from least numbers ≡ Some number → (least ≤ number) × (number < limit)
-first_bounds [] least number limit all found = absurd cc
-first_bounds (a ∷ numbers) least number limit all found =
-    elim (cases_Bool (nat_le least a)) [
-      | inl enough ↦
-          let here : a ≡ number = some_same a number (sym (cond-true (nat_le least a) (Some a) (first_from least numbers) enough) ∙ found) in
-          let order = leb-true least a enough in
-          let inside = All-head (λ n. n < limit) a numbers all in
-          (omega arith, omega arith)
-      | inr low ↦
-          first_bounds numbers least number limit (All-tail (λ n. n < limit) a numbers all)
-          (sym (cond-false (nat_le least a) (Some a) (first_from least numbers) low) ∙ found)
-    ]
+pub first_bounds : (numbers : List ℕ) (least number limit : ℕ) → AscendingNumbers numbers → All (λ n. n < limit) numbers → first_from least numbers ≡ Some number → (least ≤ number) × (number < limit)
+first_bounds numbers least number limit ascending all found =
+    let first = first_some numbers least number ascending found in
+    (first.more, each_number (λ n. n < limit) numbers all number first.listed)
 
 pub first_none : (numbers : List ℕ) (least : ℕ) → first_from least numbers ≡ None → (n : ℕ) → least ≤ n → has_number numbers n ≡ false
 first_none [] least none n from = refl
@@ -219,18 +210,15 @@ from_on_none (a ∷ numbers) least none =
           ∙ from_on_none numbers least (sym (cond-false (nat_le least a) (Some a) (first_from least numbers) low) ∙ none)
     ]
 
--- ---- a walk over the numbers, each appended to the old ones
+-- ---- a walk over the numbers
 
--- what was appended so far and the numbers that are left make the whole
-pub record IsWalked (numbers old so_far : List ℕ) (least : ℕ) : Type 0 where
-  pub whole : so_far ++ from_on least numbers ≡ old ++ numbers
+-- what was listed so far and the numbers that are left make the whole
+pub record IsWalked (numbers so_far : List ℕ) (least : ℕ) : Type 0 where
+  pub whole : so_far ++ from_on least numbers ≡ numbers
 
-pub IsWalked-none : (numbers old : List ℕ) → IsWalked numbers old old 0
-IsWalked-none numbers old = record { whole = ap (λ ns. old ++ ns) (from_on_all numbers) }
-
-pub IsWalked-more : (numbers old so_far more : List ℕ) (least number next : ℕ) → AscendingNumbers numbers → IsWalked numbers old so_far least
-    → first_from least numbers ≡ Some number → more ≡ so_far ++ number ∷ [] → next ≡ number → IsWalked numbers old more (next + 1)
-IsWalked-more numbers old so_far more least number next ascending walked found pushed same = record {
+pub IsWalked-more : (numbers so_far more : List ℕ) (least number next : ℕ) → AscendingNumbers numbers → IsWalked numbers so_far least
+    → first_from least numbers ≡ Some number → more ≡ so_far ++ number ∷ [] → next ≡ number → IsWalked numbers more (next + 1)
+IsWalked-more numbers so_far more least number next ascending walked found pushed same = record {
   whole =
       ap (λ ns. ns ++ from_on (next + 1) numbers) pushed
       ∙ append_assoc so_far (number ∷ []) (from_on (next + 1) numbers)
@@ -239,6 +227,6 @@ IsWalked-more numbers old so_far more least number next ascending walked found p
       ∙ walked.whole;
 }
 
-pub IsWalked-all : (numbers old so_far : List ℕ) (least : ℕ) → IsWalked numbers old so_far least → first_from least numbers ≡ None → so_far ≡ old ++ numbers
-IsWalked-all numbers old so_far least walked none =
+pub IsWalked-all : (numbers so_far : List ℕ) (least : ℕ) → IsWalked numbers so_far least → first_from least numbers ≡ None → so_far ≡ numbers
+IsWalked-all numbers so_far least walked none =
     sym (append-nil so_far) ∙ ap (λ ns. so_far ++ ns) (sym (from_on_none numbers least none)) ∙ walked.whole

@@ -6,7 +6,8 @@ use Rattle.std.proofs.lemmas.Nat.Bits.{bit_at-zero, bit_at_cat_low, bit_at_cat_h
 use Rattle.std.specs.Int.{bit_at, trailing_zeros}
 use native.Mathlib.Nat.{mod-eq_of_lt}
 use Rattle.dt_graph.specs.Graph.{has_number}
-use Rattle.dt_graph.specs.ClassSet.{has_bit, numbers_below, first_from}
+use Rattle.dt_graph.specs.ClassSet.{has_bit, numbers_below}
+use Rattle.dt_graph.specs.FirstFrom.{first_from}
 use Rattle.dt_graph.proofs.AscendingSets.{IsFirstFrom, is_first_none, is_first_some, and_true}
 use Rattle.dt_graph.proofs.ClassBits.{AscendingNumbers-below, has_number-below, has_bit_below}
 

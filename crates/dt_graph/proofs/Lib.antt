@@ -1,4 +1,5 @@
 pub mod InOrder
+pub mod SameLists
 pub mod Walks
 pub mod ParentLists
 pub mod Rows

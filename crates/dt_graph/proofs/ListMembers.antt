@@ -37,7 +37,41 @@ module _ {T : Type 0} where
   pub In-from_Contains : (xs : List T) (x : T) → Contains xs x → In xs x
   In-from_Contains xs x c = In-at xs c.0 x x c.1 c.2
 
+module _ {T : Type 0} where
+  pub In-from_append : (xs ys : List T) (x : T) → In (xs ++ ys) x → In xs x ⊎ In ys x
+  In-from_append [] ys x i = inr i
+  In-from_append (z ∷ zs) ys x (inl e) = inl (inl e)
+  In-from_append (z ∷ zs) ys x (inr i) = ⊎_elim (λ a. inl (inr a)) (λ b. inr b) (In-from_append zs ys x i)
+
+  pub In-later : (xs ys : List T) (x : T) → In ys x → In (xs ++ ys) x
+  In-later [] ys x i = i
+  In-later (z ∷ zs) ys x i = inr (In-later zs ys x i)
+
+module _ {T V : Type 0} (f : T → V) where
+  pub In-map : (xs : List T) (x : T) → In xs x → In (map f xs) (f x)
+  In-map [] x i = absurd i
+  In-map (z ∷ zs) x (inl e) = inl (ap f e)
+  In-map (z ∷ zs) x (inr i) = inr (In-map zs x i)
+
+  pub In-from_map : (xs : List T) (v : V) → In (map f xs) v → (x : T) × In xs x × (v ≡ f x)
+  In-from_map [] v i = absurd i
+  In-from_map (z ∷ zs) v (inl e) = (z, inl refl, e)
+  In-from_map (z ∷ zs) v (inr i) = let r = In-from_map zs v i in (r.0, inr r.1, r.2)
+
 module _ {T : Type 0} (p : T → Bool) where
+  -- one that passes, and the other way round
+  pub any_from_In : (xs : List T) (x : T) → In xs x → p x ≡ true → list_any p xs ≡ true
+  any_from_In [] x i t = absurd i
+  any_from_In (y ∷ ys) x (inl e) t = or_left (p y) (list_any p ys) (sym (ap p e) ∙ t)
+  any_from_In (y ∷ ys) x (inr i) t = or_right (p y) (list_any p ys) (any_from_In ys x i t)
+
+  pub In-from_any : (xs : List T) → list_any p xs ≡ true → (x : T) × In xs x × (p x ≡ true)
+  In-from_any [] t = absurd (false≢true t)
+  In-from_any (y ∷ ys) t = ⊎_elim
+      (λ here. (y, inl refl, here))
+      (λ later. let r = In-from_any ys later in (r.0, inr r.1, r.2))
+      (or_cases (p y) (list_any p ys) t)
+
   pub none_at : (xs : List T) (x : T) → In xs x → list_any p xs ≡ false → p x ≡ false
   none_at [] x i n = absurd i
   none_at (y ∷ ys) x (inl e) n = ap p e ∙ (or_parts (p y) (list_any p ys) n).0

@@ -1,9 +1,9 @@
 -- The live classes as those of all numbers that pass a test.
-use Rattle.std.proofs.Common.{◌≡◌, ℕ, zero, suc, ◌+◌, ◌<◌, Bool, List, [], ◌∷◌, ◌++◌, filter, sym, ap, ◌∙◌, arith}
+use Rattle.std.proofs.Common.{◌≡◌, ℕ, zero, suc, ◌+◌, ◌<◌, Bool, IsTrue, List, [], ◌∷◌, ◌++◌, filter, refl, sym, ap, ◌∙◌, arith}
 use Rattle.std.proofs.lemmas.List.Elements.{filter-append}
 use Rattle.std.specs.List.{range_with_len}
 use Rattle.dt_graph.specs.Graph.{Graph, has_number, is_live}
-use Rattle.dt_graph.specs.Lawful.{LawfulGraph}
+use Rattle.dt_graph.specs.Lawful.{AscendingNumbers, LawfulGraph}
 use Rattle.dt_graph.specs.declared.limits.TheConstants.{CLASSES}
 use Rattle.dt_graph.proofs.LinkLists.{each_number, has_number-filter, has_number-kept}
 use Rattle.dt_graph.proofs.Ascending.{AscendingNumbers-filter}
@@ -25,13 +25,18 @@ passing_more test items items' n known more =
     ∙ ap (filter test) (sym (range_more 0 n))
     ∙ (let e : suc n ≡ n + 1 = omega arith in ap (λ m. filter test (range_with_len 0 m)) e)
 
--- the live classes are the numbers of all classes that are live
+-- an ascending list is the numbers below a limit that stand in it
+pub all_passing : (test : ℕ → Bool) (numbers : List ℕ) (limit : ℕ) → AscendingNumbers numbers → ((n : ℕ) → has_number numbers n ≡ test n) → ((n : ℕ) → IsTrue (test n) → n < limit) → filter test (range_with_len 0 limit) ≡ numbers
+all_passing test numbers limit ascending listed in_range =
+    same_numbers (filter test (range_with_len 0 limit)) numbers
+    (AscendingNumbers-filter test (range_with_len 0 limit) (AscendingNumbers-range 0 limit)) ascending
+    (λ n. same_truth (has_number (filter test (range_with_len 0 limit)) n) (test n)
+    (λ kept. (has_number-filter test (range_with_len 0 limit) n kept).1)
+    (λ passes.
+    let inside = in_range n passes in
+    has_number-kept test (range_with_len 0 limit) n (has_number-range 0 limit n (omega arith) (omega arith)) passes)
+    ∙ sym (listed n))
+
 pub all_live : (g : Graph) → LawfulGraph g → filter (is_live g) (range_with_len 0 CLASSES) ≡ g.classes
 all_live g lawful =
-    same_numbers (filter (is_live g) (range_with_len 0 CLASSES)) g.classes
-    (AscendingNumbers-filter (is_live g) (range_with_len 0 CLASSES) (AscendingNumbers-range 0 CLASSES)) lawful.classes_ascend
-    (λ n. same_truth (has_number (filter (is_live g) (range_with_len 0 CLASSES)) n) (has_number g.classes n)
-    (λ listed. (has_number-filter (is_live g) (range_with_len 0 CLASSES) n listed).1)
-    (λ live.
-    let inside = each_number (λ m. m < CLASSES) g.classes lawful.classes_in_range n live in
-    has_number-kept (is_live g) (range_with_len 0 CLASSES) n (has_number-range 0 CLASSES n (omega arith) (omega arith)) live))
+    all_passing (is_live g) g.classes CLASSES lawful.classes_ascend (λ n. refl) (each_number (λ m. m < CLASSES) g.classes lawful.classes_in_range)

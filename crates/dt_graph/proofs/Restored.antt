@@ -1,6 +1,6 @@
 -- A class as it was before a change of it: what the rows stand for, and that this undoes the change.
 use Rattle.std.proofs.Common.{◌≡◌, ℕ, ◌<◌, Bool, true, false, cond, not, IsTrue, List, [], ◌∷◌, length, get_or, set, filter, eqb, nat_lt, Some, refl, sym, ap, subst, ◌∙◌, arith, length-set, set-set, get_or-set_same}
-use Rattle.std.proofs.lemmas.Bool.{ltb-true, eqb-true, eq-eqb, lt-ltb}
+use Rattle.std.proofs.lemmas.Bool.{eqb-true, eq-eqb}
 use Rattle.std.proofs.lemmas.Bool.Decides.{nat_tests}
 use Rattle.std.proofs.lemmas.List.Elements.{All-head, All-tail, All-filter}
 use Rattle.dt_graph.specs.InOrder.{find_at, without}

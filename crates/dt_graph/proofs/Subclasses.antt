@@ -1,5 +1,5 @@
 -- The lowest class that has a given one as a parent: the first that has it among the classes below it.
-use Rattle.std.proofs.Common.{◌≡◌, ◌==◌, ℕ, ◌≤◌, Bool, false, ◌&&◌, IsTrue, List, [], ◌∷◌, Option, Some, None, find, refl, sym, ap, subst, ◌∙◌, ⊎_elim, eqb-true, ltb-true, eq-eqb, nat_lt, arith}
+use Rattle.std.proofs.Common.{◌≡◌, ◌==◌, ℕ, ◌≤◌, Bool, false, ◌&&◌, IsTrue, List, [], ◌∷◌, Option, Some, None, find, refl, sym, ap, subst, ◌∙◌, ⊎_elim, eqb-true, eq-eqb, arith}
 use Rattle.std.proofs.lemmas.Bool.{or_cases, or_left, and_parts, and_from, and_right, false≢true, cases_Bool, cond-true, cond-false}
 use Rattle.std.proofs.lemmas.Bool.Decides.{nat_tests}
 use Rattle.std.proofs.lemmas.List.Elements.{All-weaker}

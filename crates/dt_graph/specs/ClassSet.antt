@@ -1,5 +1,5 @@
 -- What the words of a class set stand for: the numbers whose bits are set.
-use Rattle.std.specs.Prelude.{◌≡◌, ◌==◌, ℕ, ◌/◌, ◌%◌, Bool, nat_le, List, [], ◌∷◌, filter, slice_index, Option, find, Some, refl}
+use Rattle.std.specs.Prelude.{◌≡◌, ◌==◌, ℕ, ◌/◌, ◌%◌, Bool, List, [], ◌∷◌, filter, slice_index, refl}
 use Rattle.std.specs.Int.{bit_at}
 use Rattle.std.specs.List.{range_with_len}
 
@@ -14,10 +14,3 @@ numbers_below limit words = filter (has_bit words) (range_with_len 0 limit)
 two_words : numbers_below 128 (5 ∷ 33 ∷ []) ≡ 0 ∷ 2 ∷ 64 ∷ 69 ∷ []
 unfolding numbers_below has_bit
 two_words = refl
-
--- the first of the numbers that is this one or more
-abbrev pub first_from : ℕ → List ℕ → Option ℕ
-first_from least numbers = find (λ n. nat_le least n) numbers
-
-the_first_from_three : first_from 3 (0 ∷ 2 ∷ 64 ∷ 69 ∷ []) ≡ Some 64
-the_first_from_three = refl

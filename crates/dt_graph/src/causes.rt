@@ -27,8 +27,9 @@ impl ClassGraph {
         classes.iter().copied().find(|class| !self.is_live(*class))
     }
 
-    /// Why a class with these parents isn't added.
-    pub(crate) fn add_cause(&self, class: ClassNo, parents: &[ClassNo]) -> Option<GraphFault>
+    /// Why [`add`](ClassGraph::add) would refuse the class with these parents; `None` exactly where it wouldn't. It costs
+    /// what the refusal costs: a step for each parent, and for each two of them.
+    pub fn add_cause(&self, class: ClassNo, parents: &[ClassNo]) -> Option<GraphFault>
         ensures { result ≡ add_cause self.now class parents.now }
     {
         if self.is_live(class) {
@@ -46,7 +47,8 @@ impl ClassGraph {
         None
     }
 
-    /// Why [`drop_class`](ClassGraph::drop_class) would refuse to drop the class; `None` exactly where it wouldn't.
+    /// Why [`drop_class`](ClassGraph::drop_class) would refuse to drop the class; `None` exactly where it wouldn't. It asks
+    /// the classes below the class, from the lowest on, for the first that has it as a parent.
     pub fn drop_cause(&self, class: ClassNo) -> Option<GraphFault>
         ensures { result ≡ drop_cause self.now class }
     {
@@ -59,8 +61,9 @@ impl ClassGraph {
         None
     }
 
-    /// Why a link from the class to the parent isn't made.
-    pub(crate) fn link_cause(&self, class: ClassNo, parent: ClassNo) -> Option<GraphFault>
+    /// Why [`link`](ClassGraph::link) would refuse the link; `None` exactly where it wouldn't. It costs a step for each
+    /// parent of the class.
+    pub fn link_cause(&self, class: ClassNo, parent: ClassNo) -> Option<GraphFault>
         ensures { result ≡ link_cause self.now class parent }
     {
         if !self.is_live(class) {
@@ -81,8 +84,9 @@ impl ClassGraph {
         None
     }
 
-    /// Why the link from the class to the parent isn't taken away.
-    pub(crate) fn unlink_cause(&self, class: ClassNo, parent: ClassNo) -> Option<GraphFault>
+    /// Why [`unlink`](ClassGraph::unlink) would refuse to take the link away; `None` exactly where it wouldn't. It costs a
+    /// step for each parent of the class.
+    pub fn unlink_cause(&self, class: ClassNo, parent: ClassNo) -> Option<GraphFault>
         ensures { result ≡ unlink_cause self.now class parent }
     {
         if !self.is_live(class) {

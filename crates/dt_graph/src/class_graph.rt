@@ -24,6 +24,9 @@ use std::marker::Model;
 const PLACES: usize = CLASSES as usize;
 
 /// The live classes and the links from classes to parents.
+///
+/// Which class is at or below which is kept both ways, a bit each, so that a question is one step. That, the classes and
+/// their parents take about 1.2 MB, however many classes are live, all of it when the graph is made; no change takes memory.
 #[derive(Debug, Drop)]
 pub struct ClassGraph {
     rows: ClassRows,
@@ -43,7 +46,8 @@ impl Model for ClassGraph {
 }
 
 impl ClassGraph {
-    /// A graph with no class. All memory that changes will ever need is taken here; [`NoMemory`] where none was found.
+    /// A graph with no class. All memory that changes will ever need, about 1.2 MB, is taken and written here; [`NoMemory`] where
+    /// none was found.
     pub fn new(alloc: Global) -> Result<ClassGraph, NoMemory>
         ensures { IfOk result (λ g. g ≡ empty_graph) }
     {
@@ -52,7 +56,7 @@ impl ClassGraph {
         Ok(ClassGraph { rows, ancestry })
     }
 
-    /// Whether the class is live.
+    /// Whether the class is live. It takes one step.
     pub fn is_live(&self, class: ClassNo) -> bool
         ensures { result ≡ is_live self.now class }
     {
@@ -75,7 +79,7 @@ impl ClassGraph {
         classes
     }
 
-    /// The parents of the class, in ascending order: none where it isn't live.
+    /// The parents of the class, 16 at most, in ascending order: none where it isn't live. It takes one step.
     pub fn parents(&self, class: ClassNo) -> &[ClassNo]
         ensures { result.now ≡ parents_of self.now.links class }
     {
@@ -116,7 +120,7 @@ impl ClassGraph {
             .find(|class| self.has_link(*class, parent))
     }
 
-    /// Whether `low` equals `high` or a list of links leads from `low` to `high`.
+    /// Whether `low` equals `high` or a list of links leads from `low` to `high`. It reads one bit.
     pub fn is_below(&self, low: ClassNo, high: ClassNo) -> bool
         ensures test { result ≡ is_below self.now.links low high }
         ensures relation { IsTrue result ↔ IsBelow self.now.links low high }
@@ -150,7 +154,7 @@ impl ClassGraph {
     }
 
     /// Appends the live classes at or below `class`, in ascending order: none where `class` isn't live. [`NoMemory`]
-    /// where no memory was found; `out` is as it was then.
+    /// where no memory was found; `out` is as it was then. It takes a step for each of them and for the words of a set.
     pub fn descendants_into(&self, class: ClassNo, out: &mut Vec<ClassNo>) -> Result<(), NoMemory>
         ensures ok { OnOk result (out.new.items ≡ out.old.items ++ descendants self.now class) }
         ensures err { OnErr result (out.new.items ≡ out.old.items) }
@@ -163,7 +167,8 @@ impl ClassGraph {
         below.push_into(out)
     }
 
-    /// How many live classes are at or below `class`: none where `class` itself isn't live.
+    /// How many live classes are at or below `class`, 2,048 at most: none where `class` itself isn't live. It counts the
+    /// bits of the 32 words of a set.
     pub fn below_count(&self, class: ClassNo) -> usize
         ensures { result ≡ length (descendants self.now class) }
     {
@@ -174,7 +179,8 @@ impl ClassGraph {
         self.below(class).len()
     }
 
-    /// An equal graph, with memory of its own; [`NoMemory`] where none was found.
+    /// An equal graph, with memory of its own; [`NoMemory`] where none was found. It copies about 1.2 MB, however many classes
+    /// are live.
     pub fn copy(&self) -> Result<ClassGraph, NoMemory>
         ensures { IfOk result (λ g. g ≡ self.now) }
     {
@@ -202,6 +208,8 @@ impl ClassGraph {
     /// The causes of a refusal, in order: the class is live already; there are more than
     /// [`PARENTS`](crate::PARENTS) parents; a parent isn't live (the first); a parent is named twice (the first
     /// that equals an earlier one). After a refusal the graph is as it was.
+    ///
+    /// It takes a step for each parent and, for each, one for each class at or above it.
     pub fn add(&mut self, class: ClassNo, parents: &[ClassNo]) -> Result<(), GraphFault>
         ensures answer { result ≡ ok_unless (add_cause self.old class parents.now) tt }
         ensures ok { OnOk result (self.new ≡ add_effect self.old class parents.now) }
@@ -214,7 +222,7 @@ impl ClassGraph {
         Ok(())
     }
 
-    /// Drops a class and its links to parents.
+    /// Drops a class and its links to parents. It takes a step for each class above it.
     ///
     /// The causes of a refusal, in order: the class isn't live; it is a parent of others (the lowest of these is
     /// answered). After a refusal the graph is as it was.
@@ -230,7 +238,8 @@ impl ClassGraph {
         Ok(())
     }
 
-    /// Makes one link more.
+    /// Makes one link more. It takes a step for each class at or below the class and for each at or above the parent,
+    /// each through the 32 words of a set.
     ///
     /// The causes of a refusal, in order: the class isn't live; the parent isn't; the link is there already; the
     /// class has [`PARENTS`](crate::PARENTS) parents; the parent is at or below the class. After a refusal the
@@ -247,7 +256,9 @@ impl ClassGraph {
         Ok(())
     }
 
-    /// Takes a link away.
+    /// Takes a link away. It takes a step, through the 32 words of a few sets, for each class at or below the class and for
+    /// each that the class is below by this link alone; and one for each pair of these in which a class keeps what most
+    /// below the class lose, or loses what it mostly keeps.
     ///
     /// The causes of a refusal, in order: the class isn't live; the parent isn't; the link isn't there. After a
     /// refusal the graph is as it was.

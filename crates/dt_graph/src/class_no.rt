@@ -45,7 +45,7 @@ impl ClassNo {
         }
     }
 
-    /// The number.
+    /// The number, from 0 to 2,047.
     pub fn number(self) -> u16
         ensures value { result ≡ self }
         ensures in_range { result < CLASSES }
@@ -53,7 +53,7 @@ impl ClassNo {
         self.number
     }
 
-    /// The class of a place in a table of all classes.
+    // The class of a number in range.
     pub(crate) fn from_index(index: usize) -> ClassNo
         requires { index < CLASSES }
         ensures { result ≡ index }

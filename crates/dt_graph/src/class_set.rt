@@ -1,7 +1,7 @@
 ghost use Rattle.std.specs.Prelude.{◌≡◌, ◌==◌, ℕ, ◌<◌, ◌≤◌, ◌&&◌, ◌||◌, not, List, [], ◌++◌, length, IsTrue, All, OnOk, OnErr};
 ghost use Rattle.dt_graph.specs.Graph.{has_number, place_number};
 ghost use Rattle.dt_graph.specs.Lawful.{AscendingNumbers};
-ghost use Rattle.dt_graph.specs.ClassSet.{first_from};
+ghost use Rattle.dt_graph.specs.FirstFrom.{first_from};
 
 use crate::class_no::ClassNo;
 use crate::limits::CLASSES;

@@ -1,11 +1,11 @@
 -- The nodes of an image are few: one at the top, those between, and at most one leaf for each word.
-use Rattle.std.proofs.Common.{◌≡◌, ◌⊎◌, ℕ, zero, suc, ◌+◌, ◌<◌, ◌≤◌, ◌==◌, Bool, true, false, cond, List, [], ◌∷◌, map, length, get_or, All, refl, subst, inl, inr, arith, add-one}
+use Rattle.std.proofs.Common.{◌≡◌, ◌⊎◌, ℕ, zero, suc, ◌+◌, ◌-◌, ◌<◌, ◌≤◌, ◌==◌, Bool, true, false, cond, List, [], ◌∷◌, map, length, get_or, All, refl, subst, inl, inr, arith, add-one}
 use Rattle.std.proofs.lemmas.List.{get_or_default, length-map}
 use Rattle.std.specs.List.{dedup, dedup_from}
 use Rattle.std.specs.List.Sorted.{IsStrictlyIncreasing}
 use Rattle.std.specs.FinMap.{entries}
-use Rattle.dt_pages.specs.Reading.{addresses}
-use Rattle.dt_pages.specs.Image.{Image, IsImage, place, used_places, between, IsInRegion, IsInRegions}
+use Rattle.dt_pages.specs.Reading.{addresses, levels}
+use Rattle.dt_pages.specs.Image.{Image, IsImage, place, used_places, nodes_up_to, above_leaves_up_to, between, IsInRegion, IsInRegions}
 use Rattle.dt_pages.specs.Laws.{HasWordBelow, NodesAreFew, NodesInRegionsAreFew}
 use Rattle.dt_pages.proofs.Nodes.{places_counted}
 
@@ -42,16 +42,16 @@ climbs Q B base next xs rise each (suc k) below =
 
 -- ---- the top
 
-only_top : (address : ℕ) → address < addresses → place 3 address ≡ 0
+only_top : (address : ℕ) → address < addresses → place levels address ≡ 0
 only_top address below = omega (arith, below)
 
-one_top : (image : Image) → IsImage image → length (used_places image 3) ≤ 1
-one_top image is_image = short (length (used_places image 3)) (λ k below.
+one_top : (image : Image) → IsImage image → length (used_places image levels) ≤ 1
+one_top image is_image = short (length (used_places image levels)) (λ k below.
     climbs (λ m. m ≡ 0) (λ k m. (k ≡ 0) × (m ≡ 0)) (λ m is. (refl, is)) (λ k m n so up is. absurd (omega (arith, up, is)))
-    (used_places image 3) (places_counted image 3).each_once
-    (used_from image 3 (λ address. address < addresses) (λ m. m ≡ 0) only_top (λ k d in_list. (is_image k d in_list).0)) k below)
+    (used_places image levels) (places_counted image levels).each_once
+    (used_from image levels (λ address. address < addresses) (λ m. m ≡ 0) only_top (λ k d in_list. (is_image k d in_list).0)) k below)
   where
-    short : (n : ℕ) → ((k : ℕ) → k < n → (k ≡ 0) × (get_or (used_places image 3) k 0 ≡ 0)) → n ≤ 1
+    short : (n : ℕ) → ((k : ℕ) → k < n → (k ≡ 0) × (get_or (used_places image levels) k 0 ≡ 0)) → n ≤ 1
     short zero each = omega arith
     short (suc zero) each = omega arith
     short (suc (suc n)) each = absurd (omega (arith, (each 1 (omega arith)).0))
@@ -59,8 +59,13 @@ one_top image is_image = short (length (used_places image 3)) (λ k below.
 leaves_are_few : (image : Image) → length (used_places image 1) ≤ length (entries image)
 leaves_are_few image = omega (arith, dedup_fewer (map (λ set. place 1 set.0) (entries image)), length-map (entries image) (λ set. place 1 set.0))
 
+-- the leaves, and those above them
+split : (image : Image) (level : ℕ) → nodes_up_to (suc level) image ≡ length (used_places image 1) + above_leaves_up_to level image
+split image zero = omega arith
+split image (suc level) = omega (arith, split image level)
+
 pub nodes_are_few : NodesAreFew
-nodes_are_few image is_image = omega (arith, one_top image is_image, leaves_are_few image)
+nodes_are_few image is_image = omega (arith, split image (levels - 2), one_top image is_image, leaves_are_few image)
 
 -- ---- those between
 
@@ -97,8 +102,11 @@ at_most k m (inr (inl (from, to, climbed))) = omega (arith, to, climbed)
 at_most k m (inr (inr (from, to, climbed))) = omega (arith, to, climbed)
 
 few_between : (image : Image) → IsInRegions image → between image ≤ 321
-few_between image regions = short (between image) (λ k below. at_most k (get_or (used_places image 2) k 0)
-    (climbs IsMiddle Climbed first_middle next_middle (used_places image 2) (places_counted image 2).each_once (used_from image 2 IsInRegion IsMiddle middle regions) k below))
+few_between image regions = omega (
+  arith,
+  short (length (used_places image 2)) (λ k below. at_most k (get_or (used_places image 2) k 0)
+      (climbs IsMiddle Climbed first_middle next_middle (used_places image 2) (places_counted image 2).each_once (used_from image 2 IsInRegion IsMiddle middle regions) k below)),
+)
   where
     short : (n : ℕ) → ((k : ℕ) → k < n → k ≤ 320) → n ≤ 321
     short zero each = omega arith

@@ -1,8 +1,9 @@
 -- Readings, reach and places, worked out.
 use Rattle.std.specs.Prelude.{◌≡◌, ℕ, ◌+◌, ◌-◌, ◌*◌, [], ◌∷◌, refl}
 use Rattle.std.proofs.Common.{arith, inl, inr}
-use Rattle.dt_pages.specs.Reading.{Pages, follow, reading, Reaches}
+use Rattle.dt_pages.specs.Reading.{Pages, reading, Reaches}
 use Rattle.dt_pages.specs.Image.{place}
+use Rattle.dt_pages.specs.Reach.{met, each_once}
 use Rattle.dt_pages.specs.Laws.{SamePage}
 use Rattle.dt_pages.specs.ThreeWords.{pages_with}
 
@@ -21,12 +22,6 @@ the_last_address = refl
 
 past_the_last_address : reading telling 1 134217728 ≡ 0
 past_the_last_address = refl
-
-one_level : follow telling 1 4 (5 * 512 + 7) ≡ 4007
-one_level = refl
-
-no_level : follow telling 0 4 7 ≡ 4
-no_level = refl
 
 -- ---- reach
 
@@ -64,6 +59,16 @@ a_word_past_the_page_leads_nowhere (inl is) = let same : ◌≡◌ {A = ℕ} 0 1
 a_word_past_the_page_leads_nowhere (inr (at, below, inl is)) = absurd (omega (arith, below, is))
 a_word_past_the_page_leads_nowhere (inr (at, below, inr (next, under, inl is))) = absurd (omega (arith, under, is))
 a_word_past_the_page_leads_nowhere (inr (at, below, inr (next, under, inr way))) = way.2
+
+-- ---- reach as a list
+
+-- over one level a page is met alone, and no page is met twice in the list
+one_page_is_met : met rising 1 5 ≡ 5 ∷ []
+unfolding met
+one_page_is_met = refl
+
+the_last_of_each_stays : each_once (3 ∷ 1 ∷ 3 ∷ 0 ∷ 1 ∷ []) ≡ 3 ∷ 0 ∷ 1 ∷ []
+the_last_of_each_stays = refl
 
 -- ---- the same page
 

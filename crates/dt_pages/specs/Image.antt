@@ -1,5 +1,5 @@
 -- What a tree of pages keeps: a finite map from addresses to words, and how many pages it takes.
-use Rattle.std.specs.Prelude.{◌≢◌, ◌≤◌, ◌⊎◌, ℕ, zero, suc, ◌+◌, ◌/◌, ◌^◌, ◌<◌, ◌==◌, ◌&&◌, not, Bool, List, ◌++◌, length, map, filter, unwrap_or, All}
+use Rattle.std.specs.Prelude.{◌≢◌, ◌≤◌, ◌⊎◌, ℕ, zero, suc, ◌+◌, ◌-◌, ◌/◌, ◌^◌, ◌<◌, ◌==◌, ◌&&◌, not, Bool, List, ◌++◌, length, map, filter, unwrap_or, All}
 use Rattle.std.specs.Ordering.{nat_cmp}
 use Rattle.std.specs.FinMap.{FinMap, get, entries}
 use Rattle.std.specs.List.{list_any, dedup}
@@ -41,9 +41,14 @@ nodes_up_to (suc level) image = nodes_up_to level image + length (used_places im
 abbrev pub nodes : Image → ℕ
 nodes image = nodes_up_to levels image
 
--- how many of them are neither the top nor a leaf
+-- how many nodes the levels above the leaves have, up to this one
+abbrev pub above_leaves_up_to : ℕ → Image → ℕ
+above_leaves_up_to zero image = 0
+above_leaves_up_to (suc level) image = above_leaves_up_to level image + length (used_places image (suc (suc level)))
+
+-- how many nodes are neither the top nor a leaf
 abbrev pub between : Image → ℕ
-between image = length (used_places image 2)
+between image = above_leaves_up_to (levels - 2) image
 
 -- the regions of an image: class words, selector words and place words; cells of one receiver; cells of the master array
 abbrev pub IsInRegion : ℕ → Type 0

@@ -2,7 +2,7 @@
 use Rattle.std.specs.Prelude.{ℕ, ◌+◌, List, [], ◌∷◌, ◌++◌, codes, decimal, flat_map, slice_get, unwrap_or, Option, None, Some}
 use Rattle.std.specs.List.{join_with_byte}
 use Rattle.dt_definitions.specs.declared.why.Why.{Why}
-use Rattle.dt_definitions.specs.Refusals.{number_of, word_of, class_of}
+use Rattle.dt_definitions.specs.RefusalWords.{number_of, word_of, class_of}
 use Rattle.dt_scratch.specs.declared.reply.Answer.{Answer}
 use Rattle.dt_scratch.specs.declared.reply.Answer.TheVariants.{Method, NotUnderstood, Ambiguous}
 use Rattle.dt_scratch.specs.declared.reply.Reply.{Reply}

@@ -124,6 +124,10 @@ fn run_source<S: Source, K: Sink, T: Turnstile>(
 /// [`Status::WriteFault`]: the sink failed while the log was printed, and took a prefix of its text.
 /// [`Status::NoMemory`]: memory was wanted. Where the status is another than done or a write fault, the sink took the
 /// text of the fault, or a prefix of it where the sink failed. It starts no thread.
+///
+/// The source's count of faults is one more at a read fault, and else it stands as it was; the sink's is as it was at done
+/// and one more at a write fault. Nothing is read after a fault, after the end, or after one byte more than a script may
+/// have; and nothing is put after a fault.
 pub fn run<H: Threads + Sync, S: Source, K: Sink, T: Turnstile>(
     _rt: &H,
     alloc: Global,

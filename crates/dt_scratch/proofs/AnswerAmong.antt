@@ -6,7 +6,7 @@ use Rattle.std.proofs.lemmas.List.Elements.{filter_agree}
 use Rattle.std.proofs.lemmas.List.Sums.{length-filter}
 use Rattle.dt_graph.specs.Graph.{Link}
 use Rattle.dt_definitions.specs.Program.{Definition}
-use Rattle.dt_definitions.specs.DefinitionRows.{definition_of, with_selector}
+use Rattle.dt_definitions.specs.SelectorLists.{definition_of, with_selector}
 use Rattle.dt_definitions.specs.declared.defined.Defined.{Defined}
 use Rattle.dt_scratch.specs.declared.reply.Answer.TheVariants.{Method, NotUnderstood, Ambiguous}
 use Rattle.dt_scratch.specs.Resolve.{are_below, is_more_specific, is_more_specific_at, minimal, answer_by}

@@ -3,7 +3,8 @@ use Rattle.std.proofs.Common.{◌≡◌, ◌==◌, ℕ, Bool, true, false, ◌&&
 use Rattle.std.specs.List.{Contains, list_any}
 use Rattle.std.proofs.lemmas.Bool.{false≢true, and_parts, and_from, or_parts}
 use Rattle.dt_graph.proofs.ListMembers.{by_cases, In-from_Contains, Contains-from_In, In-filter, In-from_filter, none_at}
-use Rattle.dt_definitions.specs.Program.{Definition, DefinitionKey, Program}
+use Rattle.dt_definitions.specs.Program.{Definition, Program}
+use Rattle.dt_definitions.specs.declared.definition_key.DefinitionKey.{DefinitionKey}
 use Rattle.dt_definitions.specs.Lawful.{Lawful}
 use Rattle.dt_definitions.specs.Differing.{DifferOnlyAt, is_at_any}
 use Rattle.dt_scratch.specs.Query.{Query}
@@ -17,7 +18,7 @@ use Rattle.dt_scratch.proofs.SameAnswers.{same_answers}
 use Rattle.dt_scratch.proofs.Unmet.{unmet_stay, unmet_above, same_meet}
 
 -- a test that holds of all finds nothing in the empty list alone
-none_there : (test : Definition → Bool) (ds : List Definition) → ((d : Definition) → test d ≡ true) →
+pub none_there : (test : Definition → Bool) (ds : List Definition) → ((d : Definition) → test d ≡ true) →
     list_any test ds ≡ false → ds ≡ []
 none_there test [] all none = refl
 none_there test (d ∷ ds) all none = absurd (false≢true (sym (or_parts (test d) (list_any test ds) none).0 ∙ all d))

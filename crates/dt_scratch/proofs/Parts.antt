@@ -1,7 +1,7 @@
 -- Which definitions are enough to answer a query among.
 use Rattle.std.proofs.Common.{◌==◌, Bool, ap, ◌∙◌, sym, filter}
 use Rattle.dt_graph.proofs.ListMembers.{filter-filter, filter-map, filter-weaker}
-use Rattle.dt_definitions.specs.DefinitionRows.{definition_of, with_selector}
+use Rattle.dt_definitions.specs.SelectorLists.{definition_of, with_selector}
 use Rattle.dt_definitions.specs.Program.{Definition}
 use Rattle.dt_definitions.specs.declared.defined.Defined.{Defined}
 use Rattle.dt_scratch.specs.Resolve.{are_below}

@@ -3,7 +3,7 @@ use Rattle.std.proofs.Common.{◌≡◌, ◌==◌, ℕ, Bool, List, refl, sym, a
 use Rattle.std.specs.Prelude.{None, Some}
 use Rattle.std.specs.List.{filter}
 use Rattle.dt_definitions.specs.Program.{Definition, Program, arity_of, definitions_of}
-use Rattle.dt_definitions.specs.DefinitionRows.{with_selector}
+use Rattle.dt_definitions.specs.SelectorLists.{with_selector}
 use Rattle.dt_definitions.specs.declared.defined.Defined.{Defined}
 use Rattle.dt_graph.specs.Graph.{Graph}
 use Rattle.dt_scratch.specs.declared.reply.Answer.{Answer}

@@ -2,7 +2,7 @@
 use Rattle.std.specs.Prelude.{◌≡◌, ℕ, Bool, true, false, ◌&&◌, not, List, Option, None, Some, count_by, filter, MatchOption}
 use Rattle.dt_graph.specs.Graph.{Link}
 use Rattle.dt_definitions.specs.Program.{Definition, Program}
-use Rattle.dt_definitions.specs.DefinitionRows.{with_selector}
+use Rattle.dt_definitions.specs.SelectorLists.{with_selector}
 use Rattle.dt_definitions.specs.declared.defined.Defined.{Defined}
 use Rattle.dt_scratch.specs.declared.reply.Answer.{Answer}
 use Rattle.dt_scratch.specs.Query.{Query}

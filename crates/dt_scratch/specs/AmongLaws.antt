@@ -1,6 +1,6 @@
 -- Which definitions are enough to answer a query among.
 use Rattle.std.specs.Prelude.{◌≡◌, Bool, true, List, filter}
-use Rattle.dt_definitions.specs.DefinitionRows.{with_selector}
+use Rattle.dt_definitions.specs.SelectorLists.{with_selector}
 use Rattle.dt_definitions.specs.Program.{Program, definitions_of}
 use Rattle.dt_definitions.specs.declared.defined.Defined.{Defined}
 use Rattle.dt_scratch.specs.Query.{Query}

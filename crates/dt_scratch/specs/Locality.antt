@@ -4,7 +4,8 @@ use Rattle.std.specs.List.{list_any}
 use Rattle.dt_graph.specs.Graph.{Link}
 use Rattle.dt_graph.specs.Below.{is_below}
 use Rattle.dt_graph.specs.LinkChanges.{is_below_any}
-use Rattle.dt_definitions.specs.Program.{DefinitionKey, Program}
+use Rattle.dt_definitions.specs.Program.{Program}
+use Rattle.dt_definitions.specs.declared.definition_key.DefinitionKey.{DefinitionKey}
 use Rattle.dt_definitions.specs.Differing.{is_at_any}
 use Rattle.dt_definitions.specs.declared.edit.Edit.{Edit}
 use Rattle.dt_definitions.specs.declared.edit.Edit.TheVariants as edit

@@ -1,6 +1,7 @@
 -- An edit changes the replies that concern it, and no others.
 use Rattle.std.specs.Prelude.{◌≡◌, ℕ, false, List, Ok}
-use Rattle.dt_definitions.specs.Program.{DefinitionKey, Program}
+use Rattle.dt_definitions.specs.Program.{Program}
+use Rattle.dt_definitions.specs.declared.definition_key.DefinitionKey.{DefinitionKey}
 use Rattle.dt_definitions.specs.Lawful.{Lawful}
 use Rattle.dt_definitions.specs.Step.{effect, step_batch}
 use Rattle.dt_definitions.specs.Differing.{DifferOnlyAt}

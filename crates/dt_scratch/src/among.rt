@@ -1,7 +1,7 @@
 ghost use Rattle.std.specs.Prelude.{◌≡◌, ◌==◌, ℕ, false, IsTrue, [], MatchOption};
 ghost use Rattle.std.specs.List.{Contains, list_any};
 ghost use Rattle.std.specs.Option.{option_copied};
-ghost use Rattle.dt_definitions.specs.DefinitionRows.{with_selector};
+ghost use Rattle.dt_definitions.specs.SelectorLists.{with_selector};
 ghost use Rattle.dt_definitions.specs.Program.{Program};
 ghost use Rattle.dt_scratch.specs.Among.{answer_among, applicable_among, beats, count_unbeaten, HasAllApplicable, is_better, IsAlone, IsTransitive};
 ghost use Rattle.dt_scratch.specs.Query.{Query};

@@ -4,7 +4,7 @@ ghost use Rattle.std.specs.Cmp.{partial_order_from_own_ties};
 ghost use Rattle.std.specs.Cmp.Rules.{comparing};
 ghost use Rattle.std.specs.Option.{SomeIff};
 ghost use Rattle.std.specs.Ordering.{as_partial_cmp};
-ghost use Rattle.dt_definitions.specs.Place.{at_place};
+ghost use Rattle.dt_definitions.specs.Nth.{nth};
 ghost use Rattle.dt_scratch.specs.Query.{Query, arity_of_query, is_same_query, LawfulQuery, query_order};
 
 use std::cmp::Ordering;
@@ -91,7 +91,7 @@ impl Query {
 
     /// The number of the class at this place, from 1; `None` exactly where there is no such place.
     pub fn class(&self, place: u8) -> Option<u16>
-        ensures { result ≡ at_place self.now.classes place }
+        ensures { result ≡ nth self.now.classes place }
     {
         let place = usize::from(place).checked_sub(1)?;
         self.classes().get(place).copied()

@@ -5,10 +5,7 @@ use Rattle.std.proofs.lemmas.Bool.Decides.{nat_tests}
 use Rattle.std.specs.List.{range_with_len}
 use Rattle.dt_graph.specs.Graph.{has_number}
 use Rattle.dt_graph.specs.Lawful.{AscendingNumbers}
-use Rattle.dt_graph.proofs.LinkLists.{has_number-filter, has_number-kept}
-use Rattle.dt_graph.proofs.Ascending.{AscendingNumbers-filter}
-use Rattle.dt_graph.proofs.AscendingSets.{same_truth, same_numbers}
-use Rattle.dt_graph.proofs.ClassBits.{AscendingNumbers-range, has_number-range}
+use Rattle.dt_graph.proofs.LiveLists.{all_passing}
 use Rattle.dt_selectors.specs.Selectors.{Selector, arity_in, has_selector}
 use Rattle.dt_selectors.specs.Lawful.{LawfulSelectors, AscendingSelectors}
 use Rattle.dt_selectors.specs.declared.limits.TheConstants.{SELECTORS}
@@ -36,11 +33,4 @@ in_range selectors lawful n live = go (arity_in selectors n) refl
 -- the live selectors are the numbers of all selectors that are live
 pub all_live : (selectors : List Selector) → LawfulSelectors selectors → filter (has_selector selectors) (range_with_len 0 SELECTORS) ≡ numbers_of selectors
 all_live selectors lawful =
-    same_numbers (filter (has_selector selectors) (range_with_len 0 SELECTORS)) (numbers_of selectors)
-    (AscendingNumbers-filter (has_selector selectors) (range_with_len 0 SELECTORS) (AscendingNumbers-range 0 SELECTORS)) (numbers_ascend selectors lawful.ascend)
-    (λ n. same_truth (has_number (filter (has_selector selectors) (range_with_len 0 SELECTORS)) n) (has_selector selectors n)
-    (λ listed. (has_number-filter (has_selector selectors) (range_with_len 0 SELECTORS) n listed).1)
-    (λ live.
-    let inside = in_range selectors lawful n live in
-    has_number-kept (has_selector selectors) (range_with_len 0 SELECTORS) n (has_number-range 0 SELECTORS n (omega arith) (omega arith)) live)
-    ∙ sym (numbered selectors n))
+    all_passing (has_selector selectors) (numbers_of selectors) SELECTORS (numbers_ascend selectors lawful.ascend) (numbered selectors) (in_range selectors lawful)

@@ -1,12 +1,13 @@
 -- Lemmas on the places of texts in a list, and on a list with one more text.
-use Rattle.std.proofs.Common.{◌≡◌, ℕ, zero, suc, ◌+◌, ◌<◌, ◌⊎◌, ◌==◌, Bool, true, false, not, ◌||◌, cond, nat_lt, nat_eq, List, [], ◌∷◌, ◌++◌, map, length, Option, None, Some, is_some, option_map, slice_get, position, All, IsTrue, refl, sym, ap, subst, ◌∙◌, inl, inr, arith, add-one, length-append, eq-eqb}
+use Rattle.std.proofs.Common.{◌≡◌, ℕ, zero, suc, ◌+◌, ◌<◌, ◌⊎◌, Bool, true, false, not, ◌||◌, cond, nat_lt, nat_eq, List, [], ◌∷◌, ◌++◌, map, length, Option, None, Some, is_some, option_map, slice_get, position, All, IsTrue, refl, sym, ap, subst, ◌∙◌, inl, inr, arith, add-one, length-append}
 use Rattle.std.proofs.lemmas.Bool.Decides.{nat_tests}
 use Rattle.std.proofs.lemmas.List.Elements.{All-push}
-use Rattle.std.specs.Cmp.Lexicographic.{pointwise, bytes_decides}
+use Rattle.std.specs.Cmp.Lexicographic.{pointwise}
 use Rattle.std.proofs.lemmas.Option.{slice_get_within, get_or_from_slice_get}
 use Rattle.std.specs.List.{list_any, position_or_len}
 use Rattle.std.proofs.lemmas.List.{map-append}
 use Rattle.indexmap.specs.IndexSet.{insert_key}
+use Rattle.dt_graph.proofs.SameLists.{same_list-self, same_list-pointwise, same_list_equal}
 use Rattle.dt_selectors.specs.Names.{Names, same_text, is_name, place_of, with_text, with_name}
 use Rattle.dt_selectors.specs.Lawful.{LawfulNames, HasDistinctTexts}
 use Rattle.dt_selectors.specs.Laws.{KnownNamesStay, NewNamesAreLast, NumbersStay}
@@ -14,24 +15,6 @@ use Rattle.dt_selectors.specs.Laws.{KnownNamesStay, NewNamesAreLast, NumbersStay
 -- a place in a list, where one more text stands before the list
 abbrev one_later : Option ℕ → Option ℕ
 one_later = option_map (λ place. place + 1)
-
--- a text is the same as itself
-pub same_text-self : (text : List ℕ) → same_text text text ≡ true
-same_text-self [] = refl
-same_text-self (x ∷ xs) = rw (eq-eqb x x refl) (same_text-self xs)
-
--- the test that the set makes of two texts
-eqb-swap : (x y : ℕ) → (x == y) ≡ (y == x)
-eqb-swap x y = grind (arith, nat_tests)
-
-same_text-pointwise : (xs ys : List ℕ) → same_text xs ys ≡ pointwise nat_eq ys xs
-same_text-pointwise [] [] = refl
-same_text-pointwise [] (y ∷ ys) = refl
-same_text-pointwise (x ∷ xs) [] = refl
-same_text-pointwise (x ∷ xs) (y ∷ ys) = rw (eqb-swap x y, same_text-pointwise xs ys) refl
-
-pub same_text-same : (xs ys : List ℕ) → same_text xs ys ≡ true → xs ≡ ys
-same_text-same xs ys e = sym ((bytes_decides ys xs).0 (sym (same_text-pointwise xs ys) ∙ e))
 
 some-same : (i j : ℕ) → Some i ≡ Some j → i ≡ j
 some-same i j e = cc
@@ -55,7 +38,7 @@ module _ {K : Type 0} (text_of : K → List ℕ) (text : List ℕ) where
   place_of-position [] = refl
   place_of-position (key ∷ keys) =
       counted (is_text key) (position_or_len is_text keys) (length keys)
-      ∙ ap (λ b. cond b (Some 0) (one_later (position is_text keys))) (sym (same_text-pointwise (text_of key) text))
+      ∙ ap (λ b. cond b (Some 0) (one_later (position is_text keys))) (sym (same_list-pointwise (text_of key) text))
       ∙ ap (λ p. cond (same_text (text_of key) text) (Some 0) (one_later p)) (place_of-position keys)
 
   any-step : (b : Bool) (p : Option ℕ) → (b || is_some p) ≡ is_some (cond b (Some 0) (one_later p))
@@ -66,7 +49,7 @@ module _ {K : Type 0} (text_of : K → List ℕ) (text : List ℕ) where
   pub place_of-any : (keys : List K) → list_any (λ key. pointwise nat_eq text (text_of key)) keys ≡ is_some (place_of text (map text_of keys))
   place_of-any [] = refl
   place_of-any (key ∷ keys) =
-      ap (λ b. b || list_any is_text keys) (sym (same_text-pointwise (text_of key) text))
+      ap (λ b. b || list_any is_text keys) (sym (same_list-pointwise (text_of key) text))
       ∙ ap (λ r. same_text (text_of key) text || r) (place_of-any keys)
       ∙ any-step (same_text (text_of key) text) (place_of text (map text_of keys))
 
@@ -125,7 +108,7 @@ last-step false None q n h e = rw (h refl, add-one) refl
 last-step false (Some j) q n h e = absurd cc
 
 pub place_of-last : (text : List ℕ) (texts : List (List ℕ)) → place_of text texts ≡ None → place_of text (texts ++ text ∷ []) ≡ Some (length texts)
-place_of-last text [] e = rw (same_text-self text) refl
+place_of-last text [] e = rw (same_list-self text) refl
 place_of-last text (t ∷ texts) e =
     last-step (same_text t text) (place_of text texts) (place_of text (texts ++ text ∷ [])) (length texts) (place_of-last text texts) e
 
@@ -141,7 +124,7 @@ stored-step false (Some j) t text texts i same h e =
 pub place_of-stored : (text : List ℕ) (texts : List (List ℕ)) (i : ℕ) → place_of text texts ≡ Some i → slice_get texts i ≡ Some text
 place_of-stored text [] i e = absurd cc
 place_of-stored text (t ∷ texts) i e =
-    stored-step (same_text t text) (place_of text texts) t text texts i (same_text-same t text) (place_of-stored text texts) e
+    stored-step (same_text t text) (place_of text texts) t text texts i (same_list_equal t text) (place_of-stored text texts) e
 
 pub place_of-within : (text : List ℕ) (texts : List (List ℕ)) (i : ℕ) → place_of text texts ≡ Some i → i < length texts
 place_of-within text texts i e = slice_get_within texts i text (place_of-stored text texts i e)

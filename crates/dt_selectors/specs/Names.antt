@@ -1,7 +1,8 @@
 -- Names are numbered in the order of their first appearance: a name's number is its place in the list.
-use Rattle.std.specs.Prelude.{◌==◌, ℕ, ◌+◌, Bool, true, false, ◌&&◌, if◌then◌else◌, nat_le, List, [], ◌∷◌, length, Option, None, Some, is_none}
+use Rattle.std.specs.Prelude.{ℕ, ◌+◌, Bool, ◌&&◌, if◌then◌else◌, nat_le, List, [], ◌∷◌, length, Option, None, Some, is_none}
 use Rattle.std.specs.List.{list_all}
 use Rattle.std.specs.Option.{option_map}
+use Rattle.dt_graph.specs.SameLists.{same_list}
 
 -- the names in the order of their numbers, and how many there may be
 pub record Names : Type 0 where
@@ -10,10 +11,7 @@ pub record Names : Type 0 where
 
 -- whether the two texts are the same
 abbrev pub same_text : List ℕ → List ℕ → Bool
-same_text [] [] = true
-same_text [] (y ∷ ys) = false
-same_text (x ∷ xs) [] = false
-same_text (x ∷ xs) (y ∷ ys) = (x == y) && same_text xs ys
+same_text first second = same_list first second
 
 -- a byte that may stand in a name: one that prints, and no space
 abbrev pub is_name_byte : ℕ → Bool

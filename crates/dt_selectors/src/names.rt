@@ -61,7 +61,8 @@ fn are_name_bytes(text: &[u8]) -> bool
 }
 
 impl Names {
-    /// No name yet, and at most `limit` of them to come; the limit is from 1 to [`NAMES`].
+    /// No name yet, and at most `limit` of them to come; the limit is from 1 to [`NAMES`]. It takes no memory in
+    /// proportion to the limit; [`NoMemory`] where none was found.
     pub fn new(alloc: Global, limit: u32) -> Result<Names, NoMemory>
         requires { (1 ≤ limit) × (limit ≤ NAMES) }
         ensures { IfOk result (λ names. names ≡ record { limit = limit; texts = [] }) }

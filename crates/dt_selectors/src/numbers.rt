@@ -45,7 +45,7 @@ impl SelNo {
         }
     }
 
-    /// The number.
+    /// The number, from 0 to 4,095.
     pub fn number(self) -> u16
         ensures value { result ≡ self }
         ensures in_range { result < SELECTORS }
@@ -100,7 +100,7 @@ impl BodyNo {
         BodyNo { number }
     }
 
-    /// The number.
+    /// The number, any `u16`.
     pub fn number(self) -> u16
         ensures value { result ≡ self }
         ensures in_range { result < BODIES }
@@ -139,7 +139,7 @@ impl Arity {
         }
     }
 
-    /// The number.
+    /// The number, from 1 to 4.
     pub fn number(self) -> u8
         ensures value { result ≡ self }
         ensures in_range { (0 < result) × (result ≤ 4) }

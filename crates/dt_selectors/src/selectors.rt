@@ -57,7 +57,8 @@ fn ranged(arity: Option<Arity>) -> Option<Arity>
 }
 
 impl Selectors {
-    /// No selector. All the memory that the selectors will ever need is taken here.
+    /// No selector. All the memory that the selectors will ever need, 8 KB, is taken here; [`NoMemory`] where none was
+    /// found.
     pub fn new(alloc: Global) -> Result<Selectors, NoMemory>
         ensures { IfOk result (λ selectors. selectors ≡ []) }
     {

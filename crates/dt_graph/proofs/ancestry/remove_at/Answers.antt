@@ -17,7 +17,7 @@ loop-place-preserved c =
 
 pub loop-place-smaller : goal.loop-place-smaller
 loop-place-smaller c =
-    let bounds = first_bounds c.args.places.now c.loop-place.least c.in-Some.place CLASSES c.law.ensures.in_range (sym c.first_from.ensures ∙ c.in-Some.is) in
+    let bounds = first_bounds c.args.places.now c.loop-place.least c.in-Some.place CLASSES c.law.ensures.ascend c.law.ensures.in_range (sym c.first_from.ensures ∙ c.in-Some.is) in
     omega (arith, c.number-in-Some.ensures.value, bounds.0, bounds.1)
 
 pub returns-clause-rows : goal.returns-clause-rows

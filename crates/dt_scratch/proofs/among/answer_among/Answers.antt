@@ -1,5 +1,5 @@
 use Rattle.std.proofs.Common.{◌≡◌, ◌==◌, ℕ, true, false, cond, sym, ap, ◌∙◌, eq-eqb}
-use Rattle.dt_definitions.specs.DefinitionRows.{with_selector}
+use Rattle.dt_definitions.specs.SelectorLists.{with_selector}
 use Rattle.dt_scratch.specs.declared.reply.Answer.TheVariants.{Method, NotUnderstood, Ambiguous}
 use Rattle.dt_scratch.specs.Among.{answer_among, count_unbeaten}
 use Rattle.dt_scratch.proofs.AnswerAmong.{answered, not_understood}

@@ -1,5 +1,5 @@
 use Rattle.std.proofs.Common.{◌∙◌}
-use Rattle.dt_definitions.specs.DefinitionRows.{with_selector}
+use Rattle.dt_definitions.specs.SelectorLists.{with_selector}
 use Rattle.dt_scratch.proofs.Replies.{answered_reply}
 use Rattle.dt_scratch.proofs.look_up.resolve.Goals as goal
 

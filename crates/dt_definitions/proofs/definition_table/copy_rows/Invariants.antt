@@ -1,6 +1,0 @@
-use Rattle.std.proofs.Common.{take}
-use Rattle.dt_definitions.specs.DefinitionRows.{HaveSameDefinitions}
-use Rattle.dt_definitions.proofs.definition_table.copy_rows.Given as goal
-
-abbrev pub invariant-loop-row : goal.invariant-loop-row
-invariant-loop-row l = HaveSameDefinitions (take l.row-index l.row-items) l.copy.items

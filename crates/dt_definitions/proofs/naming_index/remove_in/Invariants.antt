@@ -1,0 +1,13 @@
+use Rattle.std.proofs.Common.{◌≡◌, take, length}
+use Rattle.dt_graph.specs.declared.limits.TheConstants.{CLASSES}
+use Rattle.dt_definitions.specs.Naming.{without_key, HasRoomAgain, RoomsGrow}
+use Rattle.dt_definitions.proofs.NamingLists.{ChangedIn}
+use Rattle.dt_definitions.proofs.naming_index.remove_in.Given as goal
+
+abbrev pub invariant-loop-place : goal.invariant-loop-place
+invariant-loop-place l = record {
+  all_classes : length l.lists.items ≡ CLASSES;
+  changed : ChangedIn (without_key (record { selector = l.selector; classes = l.classes })) l.initial.lists.items l.lists.items (take l.place l.classes);
+  grow : RoomsGrow l.initial.lists.items l.lists.items;
+  left : HasRoomAgain (record { selector = l.selector; classes = l.classes }) l.initial.lists.items l.lists.items (take l.place l.classes);
+}

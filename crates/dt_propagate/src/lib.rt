@@ -1,0 +1,6 @@
+//! What an edit changes: the queries whose cells differ between two programs. So far the laws by which they are found.
+#![tactic(auto)]
+
+mod laws;
+
+pub use laws::{boxes_hold, candidates_are_held, finer_marks_serve, understood_is_held};

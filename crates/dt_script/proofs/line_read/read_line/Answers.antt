@@ -1,0 +1,16 @@
+use Rattle.std.proofs.Common.{refl, sym, subst}
+use Rattle.dt_script.specs.Line.{LineOf}
+use Rattle.dt_script.specs.Written.{with_tokens, tokens_of, line_in}
+use Rattle.dt_script.specs.declared.line.Line.{Line}
+use Rattle.dt_script.proofs.LineMade.{line_made}
+use Rattle.dt_script.proofs.line_read.read_line.Goals as goal
+
+pub returns-in-Ok-clause-line : goal.returns-in-Ok-clause-line
+returns-in-Ok-clause-line c =
+    subst (λ (l : Line). LineOf c.args.bytes.now c.args.names.now l c.number_line.new.names) (sym c.in-Ok.ensures.numbered.1)
+    (line_made c.args.bytes.now c.in-Some.written c.args.names.now c.number_line.new.names c.in-Some.ensures c.in-Ok.ensures.numbered.0)
+
+pub returns-in-Err-NamesFull-clause-full : goal.returns-in-Err-NamesFull-clause-full
+returns-in-Err-NamesFull-clause-full c = λ _.
+    let after = with_tokens c.args.names.now (tokens_of c.in-Some.written) in
+    (line_in after c.in-Some.written, after, line_made c.args.bytes.now c.in-Some.written c.args.names.now after c.in-Some.ensures refl, rw c.in-Err-NamesFull.field-0-is at c.in-Err-NamesFull.ensures.numbered)

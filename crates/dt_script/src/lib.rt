@@ -1,0 +1,25 @@
+//! Scripts: lines of text, what each means, where each may stand, and the names that they number.
+#![tactic(auto)]
+
+mod cut;
+mod keyword;
+mod law;
+mod limits;
+mod line;
+mod line_read;
+mod name_book;
+mod numbered_line;
+mod numbering;
+mod script_fault;
+mod words;
+mod writing;
+mod written;
+mod written_line;
+
+pub use law::lines_have_one_spelling;
+pub use limits::SCRIPT_BYTES;
+pub use line::{CallerLine, Line};
+pub use line_read::{LineFault, read_line};
+pub use name_book::NameBook;
+pub use script_fault::ScriptFault;
+pub use writing::write_line;

@@ -1,0 +1,72 @@
+ghost use Rattle.std.specs.Prelude.{◌≡◌, ◌↔◌, not, IsTrue, Ok, Err, None, IfOk, IfSome, IsErrOf};
+ghost use Rattle.dt_script.specs.NameBook as book;
+ghost use Rattle.dt_script.specs.NameBook.{is_within_limits};
+ghost use Rattle.dt_script.specs.Line.{LineOf};
+ghost use Rattle.dt_script.specs.Lines.{is_silent};
+
+use crate::line::Line;
+use crate::name_book::NameBook;
+use crate::numbered_line::number_line;
+use crate::written_line::written_line;
+use dt_selectors::NameFault;
+use std::alloc::Global;
+
+/// Why bytes give no line.
+#[derive(Clone, Copy, Debug, PartialEq, Eq)]
+pub enum LineFault {
+    /// No line is spelled so.
+    Malformed,
+    /// The line has a new name, and there are as many names of its kind as there may be.
+    NamesFull,
+    /// Memory was wanted, and none was found.
+    NoMemory,
+}
+
+/// The line that is spelled so, without its line feed; `None` exactly for a line that means nothing: an empty one, or one
+/// that begins with `#`. New names are numbered from left to right. It takes memory.
+///
+/// The cost grows with the bytes, and with one hash a name.
+///
+/// # Errors
+///
+/// [`LineFault::Malformed`] exactly where no line is spelled so; the names are as they were then.
+/// [`LineFault::NamesFull`] exactly where there is such a line and its new names are more than there may be. After it, and
+/// after [`LineFault::NoMemory`], there may be names more.
+pub fn read_line(
+    alloc: Global,
+    bytes: &[u8],
+    names: &mut NameBook,
+) -> Result<Option<Line>, LineFault>
+    ensures silent { (result ≡ Ok None) ↔ IsTrue (is_silent bytes.now) }
+    ensures silent_names { result ≡ Ok None → names.new ≡ names.old }
+    ensures line { IfOk result (λ meant. IfSome meant (λ line. LineOf bytes.now names.old line names.new)) }
+    ensures fits { IsTrue (is_within_limits names.new) }
+    ensures malformed { IsErrOf result LineFault.Malformed
+        → (line : Line) (after : book.NameBook) → LineOf bytes.now names.old line after → ⊥ }
+    ensures malformed_names { IsErrOf result LineFault.Malformed → names.new ≡ names.old }
+    ensures full { IsErrOf result LineFault.NamesFull → (line : Line) × (after : book.NameBook)
+        × LineOf bytes.now names.old line after × IsTrue (not (is_within_limits after)) }
+{
+    names.law();
+    if is_silent(bytes) {
+        return Ok(None);
+    }
+    let Some(written) = written_line(bytes) else {
+        return Err(LineFault::Malformed);
+    };
+    match number_line(alloc, names, &written) {
+        Ok(line) => Ok(Some(line)),
+        Err(NameFault::NamesFull) => Err(LineFault::NamesFull),
+        Err(NameFault::NoMemory) => Err(LineFault::NoMemory),
+    }
+}
+
+// Whether the line means nothing.
+fn is_silent(bytes: &[u8]) -> bool
+    ensures { result ≡ is_silent bytes.now }
+{
+    match *bytes {
+        [] => true,
+        [first, ..] => first == b'#',
+    }
+}
