@@ -24,6 +24,8 @@ mod running;
 #[cfg(test)]
 mod second_look_up;
 #[cfg(test)]
+mod tables;
+#[cfg(test)]
 mod traits;
 #[cfg(test)]
 mod trials;
