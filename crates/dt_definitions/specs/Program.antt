@@ -53,10 +53,12 @@ is_definition_before a b =
 abbrev pub key_of : Definition → DefinitionKey
 key_of d = record { selector = d.selector; classes = d.classes }
 
+-- whether the first stands before the second: by selector, then by classes
 abbrev pub is_key_before : DefinitionKey → DefinitionKey → Bool
 is_key_before a b =
     nat_lt a.selector b.selector || ((a.selector == b.selector) && are_classes_before a.classes b.classes)
 
+-- whether they are the same selector and classes
 abbrev pub is_same_key : DefinitionKey → DefinitionKey → Bool
 is_same_key a b = (b.selector == a.selector) && same_classes b.classes a.classes
 

@@ -1,7 +1,7 @@
 -- Lists in strict order of a key: each element stands before the next, so no key stands twice.
 use Rattle.std.specs.Prelude.{◌≡◌, Bool, false, not, IsTrue, if◌then◌else◌, List, [], ◌∷◌, Option, None, Some, filter, find}
 
--- keys in strict order: one stands before another, the other before the one, or they are equal
+-- keys in strict order: of two that aren't equal exactly one stands before the other, and so along three
 pub record StrictOrder {K : Type 0} (before same : K → K → Bool) : Type 0 where
   pub transitive : (a b c : K) → IsTrue (before a b) → IsTrue (before b c) → IsTrue (before a c)
   pub irreflexive : (a : K) → before a a ≡ false

@@ -1,4 +1,4 @@
--- An edit changes the replies that concern it, and no others.
+-- An edit changes no reply but those that it concerns.
 use Rattle.std.specs.Prelude.{◌≡◌, ℕ, false, List, Ok}
 use Rattle.dt_definitions.specs.Program.{Program}
 use Rattle.dt_definitions.specs.declared.definition_key.DefinitionKey.{DefinitionKey}

@@ -30,7 +30,7 @@ is_more_specific_at links a b = not (same_classes a b) && are_below links a b
 abbrev pub is_more_specific : List Link → Definition → Definition → Bool
 is_more_specific links a b = is_more_specific_at links a.classes b.classes
 
--- those of the definitions for which no other has, in every position, a class below theirs
+-- those of the definitions than which no other is more specific
 abbrev pub minimal : List Link → List Definition → List Definition
 minimal links definitions =
     filter (λ d. not (list_any (λ other. is_more_specific links other d) definitions)) definitions
