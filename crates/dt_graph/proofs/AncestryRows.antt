@@ -68,7 +68,10 @@ IsChangedTo-all change old new places least none so_far k n =
           and_left (has_number places k) (nat_lt k least) unlisted ∙ sym unlisted
     ])
 
--- ---- the two changes
+-- ---- what may change
+
+abbrev pub with_one : ℕ → Bool → ℕ → Bool
+with_one class bit n = bit || (class == n)
 
 abbrev pub with_all : List ℕ → Bool → ℕ → Bool
 with_all classes bit n = bit || has_number classes n

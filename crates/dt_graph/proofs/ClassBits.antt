@@ -1,5 +1,5 @@
 -- The numbers of a class set against the bits of its words.
-use Rattle.std.proofs.Common.{◌≡◌, ◌==◌, ℕ, zero, suc, ◌+◌, ◌-◌, ◌*◌, ◌/◌, ◌%◌, ◌^◌, ◌<◌, ◌≤◌, Bool, not, ◌&&◌, ◌||◌, IsTrue, List, [], ◌∷◌, ◌++◌, length, get_or, set, replicate, filter, All, refl, sym, ap, ◌∙◌, ⊎_elim, arith, eq-eqb, ne_eqb, eqb-true, lt-ltb, inl, inr, w64, min, max, subst, length-append}
+use Rattle.std.proofs.Common.{◌≡◌, ◌==◌, ℕ, zero, suc, ◌+◌, ◌-◌, ◌*◌, ◌/◌, ◌%◌, ◌^◌, ◌<◌, ◌≤◌, Bool, cond, not, ◌&&◌, ◌||◌, IsTrue, List, [], ◌∷◌, ◌++◌, length, get_or, set, replicate, filter, All, refl, sym, ap, ◌∙◌, ⊎_elim, arith, eq-eqb, ne_eqb, eqb-true, lt-ltb, inl, inr, w64, min, max, subst, length-append}
 use Rattle.std.proofs.lemmas.Bool.{or_cases, or_left, or_right, and_right, cases_Bool, cases_eq, cases_lt, cond-true, cond-false, false≢true, eqb-false}
 use Rattle.std.proofs.lemmas.Bool.Decides.{nat_tests}
 use Rattle.std.proofs.lemmas.List.{get_or_past, get_or-replicate, get_or-set_same, get_or-set_other, length-set, length-replicate}
@@ -315,3 +315,26 @@ counted bits limit more i words all before after fits =
 pub none_counted : (words : List ℕ) → length (numbers_below 0 words) ≡ 0
 unfolding numbers_below
 none_counted words = refl
+
+same_in_range : (first second : ℕ → Bool) (a n : ℕ) → ((k : ℕ) → k < a + n → first k ≡ second k) → filter first (range_with_len a n) ≡ filter second (range_with_len a n)
+same_in_range first second a zero same = refl
+same_in_range first second a (suc n) same =
+    let rest : List ℕ = range_with_len (a + 1) n in
+    ap (λ t. cond t (a ∷ filter first rest) (filter first rest)) (same a (omega arith))
+    ∙ ap (λ ns. cond (second a) (a ∷ ns) ns) (same_in_range first second (a + 1) n (λ k inside. same k (omega arith)))
+
+-- a word that changes, changes nothing below it
+below_changed : (limit i word : ℕ) (words : List ℕ) → limit ≡ 64 * i → numbers_below limit (set words i word) ≡ numbers_below limit words
+unfolding numbers_below has_bit
+below_changed limit i word words all =
+    same_in_range (has_bit (set words i word)) (has_bit words) 0 limit (λ k inside.
+    ap (λ w. bit_at w (k % 64) == 1) (get_or-set_other words i (k / 64) word 0 (λ e. omega arith)))
+
+-- the numbers of the words before one, and those of that word where it changes
+pub counted_changed : (bits limit more i word count : ℕ) (words : List ℕ) → bits ≡ 64 → limit ≡ 64 * i → more ≡ limit + bits → i < length words → word < 2 ^ bits
+    → count ≡ length (numbers_below limit words) → count + count_ones word ≡ length (numbers_below more (set words i word))
+counted_changed bits limit more i word count words all before after inside fits so_far =
+    let here : get_or (set words i word) i 0 ≡ word = get_or-set_same words i word 0 inside in
+    ap (λ n. n + count_ones word) (so_far ∙ ap length (sym (below_changed limit i word words before)))
+    ∙ ap (λ w. length (numbers_below limit (set words i word)) + count_ones w) (sym here)
+    ∙ sym (counted bits limit more i (set words i word) all before after (subst (λ w. w < 2 ^ bits) (sym here) fits))

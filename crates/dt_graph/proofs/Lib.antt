@@ -27,3 +27,4 @@ pub mod Needed
 pub mod ListMembers
 pub mod BelowSets
 pub mod PlacedMembers
+pub mod SetSizes

@@ -4,6 +4,8 @@ ghost use Rattle.dt_graph.specs.Ancestry.{holds, row_has};
 
 use crate::class_no::ClassNo;
 use crate::class_set::ClassSet;
+use crate::counted_rows::{each_counted, insert_counted, remove_at, remove_counted};
+use crate::counted_set::CountedSet;
 use crate::limits::CLASSES;
 use crate::no_memory::NoMemory;
 use std::alloc::Global;
@@ -14,8 +16,8 @@ use std::marker::Model;
 pub(crate) struct Ancestry {
     /// For each class the classes at or above it.
     above: Vec<ClassSet>,
-    /// For each class the classes at or below it.
-    below: Vec<ClassSet>,
+    /// For each class the classes at or below it, and how many they are.
+    below: Vec<CountedSet>,
 }
 
 impl Model for Ancestry {
@@ -59,21 +61,6 @@ fn insert_all_at(rows: &mut [ClassSet], places: &ClassSet, classes: &ClassSet)
     }
 }
 
-/// Each row that `places` names has the class no more.
-fn remove_at(rows: &mut [ClassSet], places: &ClassSet, class: ClassNo)
-    requires { length rows.old ≡ CLASSES }
-    ensures count { length rows.new ≡ CLASSES }
-    ensures rows { (k n : ℕ) → row_has rows.new k n
-        ≡ (row_has rows.old k n && not (has_number places.now k && n == class)) }
-{
-    places.law();
-    let mut least = 0;
-    while let Some(place) = places.first_from(least) {
-        rows[place.number() as usize].remove(class);
-        least = place.number() as usize + 1;
-    }
-}
-
 /// Each row that `places` names has these classes no more.
 fn remove_all_at(rows: &mut [ClassSet], places: &ClassSet, classes: &ClassSet)
     requires { length rows.old ≡ CLASSES }
@@ -95,7 +82,7 @@ impl Ancestry {
         ensures { IfOk result (λ a. (low high : ℕ) → low < CLASSES → high < CLASSES → holds a low high ≡ (low == high)) }
     {
         let above = each_alone(alloc)?;
-        let below = each_alone(alloc)?;
+        let below = each_counted(alloc)?;
         Ok(Ancestry { above, below })
     }
 
@@ -126,6 +113,13 @@ impl Ancestry {
     pub(crate) fn below(&self, high: ClassNo) -> &ClassSet
         ensures { (low : ℕ) → low < CLASSES → has_number result.now low ≡ holds self.now low high }
     {
+        self.counted_below(high).as_set()
+    }
+
+    /// The same, with how many they are.
+    pub(crate) fn counted_below(&self, high: ClassNo) -> &CountedSet
+        ensures { (low : ℕ) → low < CLASSES → has_number result.now low ≡ holds self.now low high }
+    {
         &self.below[high.number() as usize]
     }
 
@@ -146,7 +140,7 @@ impl Ancestry {
             ≡ (holds self.old low high || (has_number lows.now low && has_number highs.now high)) }
     {
         insert_all_at(&mut self.above, lows, highs);
-        insert_all_at(&mut self.below, highs, lows);
+        insert_counted(&mut self.below, highs, lows);
     }
 
     /// From now on none of the lows is at or below any of the highs.
@@ -155,7 +149,7 @@ impl Ancestry {
             ≡ (holds self.old low high && not (has_number lows.now low && has_number highs.now high)) }
     {
         remove_all_at(&mut self.above, lows, highs);
-        remove_all_at(&mut self.below, highs, lows);
+        remove_counted(&mut self.below, highs, lows);
     }
 
     /// From now on the classes at or above `low` are these.
@@ -170,7 +164,7 @@ impl Ancestry {
         let mut alone = ClassSet::new();
         alone.insert(low);
         remove_at(&mut self.below, &old.without(row), low);
-        insert_all_at(&mut self.below, &row.without(&old), &alone);
+        insert_counted(&mut self.below, &row.without(&old), &alone);
         self.above[low.number() as usize] = row.copy();
     }
 }

@@ -13,6 +13,7 @@ use crate::ancestry::Ancestry;
 use crate::class_no::ClassNo;
 use crate::class_rows::ClassRows;
 use crate::class_set::ClassSet;
+use crate::counted_set::CountedSet;
 use crate::graph_fault::GraphFault;
 use crate::limits::CLASSES;
 use crate::no_memory::NoMemory;
@@ -134,9 +135,17 @@ impl ClassGraph {
         ensures test { (low : ℕ) → has_number result.now low ≡ is_below self.now.links low class }
         ensures live { IsTrue (is_live self.now class) → result.now ≡ descendants self.now class }
     {
+        self.counted_below(class).as_set()
+    }
+
+    /// The same, with how many they are.
+    fn counted_below(&self, class: ClassNo) -> &CountedSet
+        ensures test { (low : ℕ) → has_number result.now low ≡ is_below self.now.links low class }
+        ensures live { IsTrue (is_live self.now class) → result.now ≡ descendants self.now class }
+    {
         self.rows.law();
-        let below = self.ancestry.below(class);
-        below.law();
+        let below = self.ancestry.counted_below(class);
+        below.as_set().law();
         below
     }
 
@@ -167,8 +176,8 @@ impl ClassGraph {
         below.push_into(out)
     }
 
-    /// How many live classes are at or below `class`, 2,048 at most: none where `class` itself isn't live. It counts the
-    /// bits of the 32 words of a set.
+    /// How many live classes are at or below `class`, 2,048 at most: none where `class` itself isn't live. Kept, so
+    /// it reads a number.
     pub fn below_count(&self, class: ClassNo) -> usize
         ensures { result ≡ length (descendants self.now class) }
     {
@@ -176,7 +185,7 @@ impl ClassGraph {
         if !self.is_live(class) {
             return 0;
         }
-        self.below(class).len()
+        self.counted_below(class).len()
     }
 
     /// An equal graph, with memory of its own; [`NoMemory`] where none was found. It copies about 1.2 MB, however many classes

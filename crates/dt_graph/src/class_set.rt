@@ -1,4 +1,4 @@
-ghost use Rattle.std.specs.Prelude.{◌≡◌, ◌==◌, ℕ, ◌<◌, ◌≤◌, ◌&&◌, ◌||◌, not, List, [], ◌++◌, length, IsTrue, All, OnOk, OnErr};
+ghost use Rattle.std.specs.Prelude.{◌≡◌, ◌==◌, ℕ, ◌<◌, ◌≤◌, ◌&&◌, ◌||◌, not, List, [], ◌∷◌, ◌++◌, length, IsTrue, All, IfSome, OnOk, OnErr};
 ghost use Rattle.dt_graph.specs.Graph.{has_number, place_number};
 ghost use Rattle.dt_graph.specs.Lawful.{AscendingNumbers};
 ghost use Rattle.dt_graph.specs.FirstFrom.{first_from};
@@ -114,6 +114,18 @@ impl ClassSet {
         Some(ClassNo::from_index(place * BITS + word.trailing_zeros() as usize))
     }
 
+    /// The class that is in the set alone; `None` where there is none or are more.
+    pub(crate) fn only(&self) -> Option<ClassNo>
+        ensures { IfSome result (λ class. self.now ≡ class ∷ []) }
+    {
+        self.law();
+        let class = self.first_from(0)?;
+        match self.first_from(class.number() as usize + 1) {
+            Some(_) => None,
+            None => Some(class),
+        }
+    }
+
     /// The class is in the set from now on.
     pub fn insert(&mut self, class: ClassNo)
         ensures list { self.new ≡ place_number class self.old }
@@ -138,6 +150,22 @@ impl ClassSet {
         for i in 0..WORDS {
             self.words[i] |= other.words[i];
         }
+    }
+
+    /// The classes of the other set are in the set from now on, too; answers how many the set has then. The count costs
+    /// less here than in a pass of its own.
+    pub(crate) fn insert_all_counting(&mut self, other: &ClassSet) -> usize
+        ensures members { (n : ℕ) → has_number self.new n ≡ (has_number self.old n || has_number other.now n) }
+        ensures count { result ≡ length self.new }
+        ensures in_range { result ≤ CLASSES }
+    {
+        let mut count = 0;
+        for i in 0..WORDS {
+            let word = self.words[i] | other.words[i];
+            self.words[i] = word;
+            count += word.count_ones() as usize;
+        }
+        count
     }
 
     /// The classes of the other set aren't in the set from now on.

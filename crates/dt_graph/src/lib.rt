@@ -9,6 +9,8 @@ mod class_graph;
 mod class_no;
 mod class_rows;
 mod class_set;
+mod counted_rows;
+mod counted_set;
 mod graph_fault;
 mod laws;
 mod limits;

@@ -8,4 +8,4 @@ returns-then-not-is_live c =
     ap length (no_descendants c.args.self.now c.args.class (subst LawfulGraph c.self.view_is c.law.ensures.lawful) (sym c.is_live.ensures ∙ c.if-not-is_live.true))
 
 pub returns : goal.returns
-returns c = c.len.ensures.value ∙ ap length (c.below.ensures.live (sym c.is_live.ensures ∙ c.if-not-is_live.false))
+returns c = c.len.ensures ∙ ap length (c.counted_below.ensures.live (sym c.is_live.ensures ∙ c.if-not-is_live.false))
