@@ -1,5 +1,5 @@
 #!/bin/sh
-# Times look-ups and edits of generated programs of three sizes, and graphs of three shapes. Each line it prints is
+# Times look-ups and edits of generated programs of three sizes, graphs of three shapes, and selectors of many definitions. Each line it prints is
 # NAME SIZE | METRIC | UNIT | MEDIAN | LEAST | GREATEST, over 21 rounds. Run it on a machine that does nothing else.
 set -eu
 top=$(cd "$(dirname "$0")/.." && pwd)
@@ -15,4 +15,7 @@ for shape in chain star diamonds; do
     for classes in 800 2048; do
         "$program" graph "$shape" "$classes"
     done
+done
+for definitions in 1 30 300 3000; do
+    "$program" selector "$definitions"
 done
