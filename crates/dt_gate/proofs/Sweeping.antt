@@ -4,7 +4,7 @@ use Rattle.std.proofs.lemmas.List.Folds.{list_any-append}
 use Rattle.std.specs.List.{AllByRecursion}
 use Rattle.dt_gate.specs.declared.gate.Author.{Author}
 use Rattle.dt_gate.specs.declared.gate.Root.{Root}
-use Rattle.dt_gate.specs.declared.gate.Standing.TheVariants.{Old}
+use Rattle.dt_gate.specs.declared.gate.Standing.TheVariants.{Free, Old}
 use Rattle.dt_gate.specs.Gate.{IsLive, blank_root, root_at, is_old, IsOld, stands_in}
 use Rattle.dt_gate.specs.Author.{with_root, is_new_sweep, after_poll}
 use Rattle.dt_gate.specs.Sound.{AreDistinct}
@@ -108,6 +108,14 @@ module _ {M I : Type 0} where
 
   -- ---- one poll
 
+  -- the author with what a sweep changes as it is at another one
+  abbrev as_swept : Author M I → Author M I → Author M I
+  as_swept author next = record author { roots = next.roots; held = next.held; sweep = next.sweep; polls = next.polls }
+
+  -- nothing else is changed
+  abbrev IsTheRest : Author M I → Author M I → Type 0
+  IsTheRest author next = next ≡ as_swept author next
+
   -- a poll changes no other root
   poll_leaves : (author : Author M I) (root exits x : ℕ) → IsOld (root_at author root).standing → x ≢ root → root_at (after_poll author root exits) x ≡ root_at author x
   poll_leaves author root exits x old apart = poll_leads (λ next. root_at next x ≡ root_at author x) author root exits old
@@ -121,6 +129,11 @@ module _ {M I : Type 0} where
   poll_is_kept author root exits old = poll_leads (λ next. next.polls ≡ author.polls ++ (root, exits) ∷ []) author root exits old
       (λ new entries is all_left. refl) (λ new entries is some_stay. refl) (λ on entries is all_left. refl) (λ on entries is some_stay. refl)
 
+  -- it changes nothing else than a sweep does
+  poll_keeps : (author : Author M I) (root exits : ℕ) → IsOld (root_at author root).standing → IsTheRest author (after_poll author root exits)
+  poll_keeps author root exits old = poll_leads (IsTheRest author) author root exits old
+      (λ new entries is all_left. refl) (λ new entries is some_stay. refl) (λ on entries is all_left. refl) (λ on entries is some_stay. refl)
+
   -- and it decides
   poll_decides : (author : Author M I) (root exits : ℕ) → IsOld (root_at author root).standing → ReadDecides author (after_poll author root exits) (root, exits)
   poll_decides author root exits old = poll_leads (λ next. ReadDecides author next (root, exits)) author root exits old
@@ -130,14 +143,14 @@ module _ {M I : Type 0} where
       freed : (start : Author M I) (e : ℕ) → (root_at author root).standing ≡ Old e → exits ≡ e → start.roots ≡ author.roots
           → ReadDecides author (with_root start root (freed_root author root)) (root, exits)
       freed start e is all_left same = record {
-        frees = λ entries was left. ap (λ (r : Root). r.standing) (get_or-set_same start.roots root (freed_root author root) blank_root
-            (subst (λ roots. root < length {A = Root} roots) (sym same) (root_here author root (subst IsLive (sym is) tt))));
+        frees = λ entries was left. get_or-set_same start.roots root (freed_root author root) blank_root
+            (subst (λ roots. root < length {A = Root} roots) (sym same) (root_here author root (subst IsLive (sym is) tt)));
         holds = λ entries was some. absurd (some (all_left ∙ old_is (sym is ∙ was)));
       }
 
       held : (e : ℕ) → (root_at author root).standing ≡ Old e → exits ≢ e → {held : List ℕ} {sweep : ℕ}
           → ReadDecides author (record (polled author root exits) { held = held; sweep = sweep }) (root, exits)
-      held e is some_stay = record { frees = λ entries was left. absurd (some_stay (left ∙ old_is (sym was ∙ is))); holds = λ entries was some. was }
+      held e is some_stay = record { frees = λ entries was left. absurd (some_stay (left ∙ old_is (sym was ∙ is))); holds = λ entries was some. refl }
 
   -- ---- all polls
 
@@ -150,14 +163,19 @@ module _ {M I : Type 0} where
     pub polls : next.polls ≡ author.polls ++ reads
     pub decides : AllByRecursion (ReadDecides author next) reads
     pub others : (root : ℕ) → stands_in root (sweep.polled reads) ≡ false → root_at next root ≡ root_at author root
+    pub no_more : IsTheRest author next
 
   -- what was decided of roots that stood before as they stand at a later author
   decided_before : (author later next : Author M I) (reads : List (ℕ × ℕ)) → ((root : ℕ) → stands_in root (sweep.polled reads) ≡ true → root_at later root ≡ root_at author root)
       → AllByRecursion (ReadDecides later next) reads → AllByRecursion (ReadDecides author next) reads
   decided_before author later next [] same all = tt
   decided_before author later next (read ∷ reads) same all =
-      let was = ap (λ (r : Root). r.standing) (same read.0 (in_head read.0 read.0 (sweep.polled reads) refl)) in (
-        record { frees = λ entries is. all.0.frees entries (was ∙ is); holds = λ entries is. all.0.holds entries (was ∙ is) },
+      let root = same read.0 (in_head read.0 read.0 (sweep.polled reads) refl) in
+      let was = ap (λ (r : Root). r.standing) root in (
+        record {
+          frees = λ entries is left. all.0.frees entries (was ∙ is) left ∙ ap (λ (r : Root). record r { standing = Free }) root;
+          holds = λ entries is some. all.0.holds entries (was ∙ is) some ∙ root;
+        },
         decided_before author later next reads (λ root is. same root (in_tail read.0 root (sweep.polled reads) is)) all.1,
       )
 
@@ -176,13 +194,14 @@ module _ {M I : Type 0} where
     );
     others = λ root is. rest.others root (second (read.0 == root) (stands_in root (sweep.polled reads)) is)
         ∙ poll_leaves author read.0 read.1 root old (λ e. true≢false (sym (in_head read.0 root (sweep.polled reads) (sym e)) ∙ is));
+    no_more = rest.no_more ∙ ap (λ (a : Author M I). as_swept a next) (poll_keeps author read.0 read.1 old);
   }
     where
       first : ReadDecides author (after_poll author read.0 read.1) (read.0, read.1)
       first = poll_decides author read.0 read.1 old
 
-      stays : (root_at next read.0).standing ≡ (root_at (after_poll author read.0 read.1) read.0).standing
-      stays = ap (λ (r : Root). r.standing) (rest.others read.0 once)
+      stays : root_at next read.0 ≡ root_at (after_poll author read.0 read.1) read.0
+      stays = rest.others read.0 once
 
       apart : (root : ℕ) → stands_in root (sweep.polled reads) ≡ true → root ≢ read.0
       apart root is e = true≢false (sym is ∙ ap (λ k. stands_in k (sweep.polled reads)) e ∙ once)
@@ -223,6 +242,7 @@ module _ {M I : Type 0} where
     polls = sym (append-nil author.polls);
     decides = tt;
     others = λ root is. refl;
+    no_more = refl;
   }
   swept (read ∷ reads) begun done author so_far once new =
       let first = new read.0 (in_head read.0 read.0 (sweep.polled reads) refl) in
@@ -251,6 +271,7 @@ module _ {M I : Type 0} where
     whole = whole_sweep author author [] (λ root old is. absurd (true≢false (sym is))) (λ root is. refl);
     count = inl refl;
     out = refl;
+    no_more = refl;
   }
   sweep_leads author (read ∷ reads) part = record {
     polls = all.polls;
@@ -260,6 +281,7 @@ module _ {M I : Type 0} where
     whole = whole_sweep author (after_polls author (read ∷ reads)) (read ∷ reads) (λ root old is. all.sweeping.old_are_held root old (all.these root is)) all.others;
     count = inr all.sweeping.count;
     out = all.sweeping.out;
+    no_more = all.no_more;
   }
     where
       first_old : is_old (root_at author read.0).standing ≡ true
