@@ -1,5 +1,5 @@
 -- Sweeps of the busy gate and of gates that differ from it in one thing, and the words of the busy gate.
-use Rattle.std.specs.Prelude.{◌≡◌, ℕ, zero, suc, ◌+◌, ◌^◌, ◌<◌, ◌≤◌, Bool, true, false, List, [], ◌∷◌, slice_set, refl}
+use Rattle.std.specs.Prelude.{◌≡◌, ℕ, zero, suc, ◌+◌, ◌^◌, ◌<◌, ◌≤◌, Bool, true, false, List, [], ◌∷◌, ◌++◌, slice_set, ◌⊎◌, refl}
 use Rattle.std.proofs.Common.{ap, arith, inl, inr}
 use Rattle.std.proofs.lemmas.Bool.Decides.{nat_tests}
 use Rattle.dt_gate.specs.declared.access.Access.TheVariants.{Load, Add, Store, Swap}
@@ -9,7 +9,7 @@ use Rattle.dt_gate.specs.declared.event.RecordWord.TheVariants.{Top}
 use Rattle.dt_gate.specs.declared.gate.Author.{Author}
 use Rattle.dt_gate.specs.declared.gate.Root.{Root}
 use Rattle.dt_gate.specs.declared.gate.Standing.TheVariants.{Free}
-use Rattle.dt_gate.specs.Gate.{root_at, is_old, stands_in}
+use Rattle.dt_gate.specs.Gate.{blank_root, root_at, is_old, stands_in}
 use Rattle.dt_gate.specs.Sweeps.{after_polls, MayBeginASweep, IsOfASweep, SweepLeads, LeavesRoom}
 use Rattle.dt_gate.specs.Words.{words_of, access_of, accessed, found}
 use Rattle.dt_gate.specs.Busy.{two, zeros, busy, busy_author, old_root, current_root}
@@ -80,6 +80,22 @@ a_sweep_that_lays_a_freed_root leads =
 -- it changes neither the current root nor pages nor the history
 a_sweep_that_forgets : ¬ SweepLeads three_old ((0, 1) ∷ []) (record one_held { current = 3; words = []; history = [] })
 a_sweep_that_forgets leads = let is : ◌≡◌ {A = ℕ} 3 1 = ap (λ (author : Author ℕ ℕ). author.current) leads.no_more in absurd (omega (arith, is))
+
+-- it finds held what it polled, and each once
+a_sweep_that_holds_the_current_root : ¬ SweepLeads three_old ((0, 1) ∷ []) (record one_held { held = 0 ∷ 1 ∷ [] })
+a_sweep_that_holds_the_current_root leads = held leads.held
+  where
+    held : (◌≡◌ {A = List (ℕ × ℕ)} ((0, 1) ∷ []) []) ⊎ (◌≡◌ {A = List ℕ} (0 ∷ 1 ∷ []) (0 ∷ [])) → ⊥
+    held (inl none) = cc
+    held (inr same) = cc
+
+-- it adds no root, though one past the last reads as a blank one
+a_sweep_that_adds_a_root : ¬ SweepLeads three_old ((0, 1) ∷ []) (record one_held { roots = one_held.roots ++ blank_root ∷ [] })
+a_sweep_that_adds_a_root leads = let is : ◌≡◌ {A = ℕ} 5 4 = leads.as_many in absurd (omega (arith, is))
+
+-- nor does it begin with no poll
+a_sweep_of_no_poll : ¬ SweepLeads three_old [] (record three_old { sweep = 2 })
+a_sweep_of_no_poll leads = let is : ◌≡◌ {A = ℕ} 2 1 = ap (λ (author : Author ℕ ℕ). author.sweep) (leads.none refl) in absurd (omega (arith, is))
 
 -- neither nothing is held, nor each old root: a poll of root 0 would go on with the sweep that found root 2 held
 no_sweep_begins_in_the_midst : ¬ MayBeginASweep (record three_old { held = 2 ∷ [] })
