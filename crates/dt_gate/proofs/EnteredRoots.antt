@@ -18,14 +18,14 @@ use Rattle.dt_gate.specs.Sound.{WasEntered}
 use Rattle.dt_gate.proofs.Kept.{Counted, Shown, Entered}
 use Rattle.dt_gate.proofs.Roots.{now_is_not_old, free_is_not_old, old_is, lay_keeps_standing, gone_root, new_root, freed_root, part_stays, at_publish, polled, polled_anew, poll_leads}
 use Rattle.dt_gate.proofs.Lists.{at_set}
-use Rattle.dt_gate.proofs.EnteredSeats.{HasMore, worn_more, all_worn_more, SeatIsEntered, entered_copy}
+use Rattle.dt_gate.proofs.EnteredSeats.{HasMore, worn_more, all_worn_more, seen_more, SeatIsEntered, entered_copy}
 
 module _ {M I : Type 0} (bounds : Bounds) where
   -- a look that is worn: the pair that it keeps was entered so often
   pub worn_look : (shows : Reading → List I → Type 0) (gate : Gate M I) (seat : Seat M I) → Shown shows bounds gate → Entered bounds gate → SeatIsEntered bounds gate seat
-      → IsReader seat.stage → bounds.entries ≤ gate.entries
+      → IsReader seat.stage → length seat.history ≤ length gate.author.history → bounds.entries ≤ gate.entries
       → SeatIsEntered bounds gate (record seat { history = gate.author.history; worn = seat.worn ++ (length gate.author.history, gate.entries) ∷ [] })
-  worn_look shows gate seat shown kept is reader reached = record {
+  worn_look shows gate seat shown kept is reader behind reached = record {
     worn = All-push (WasEntered bounds gate) seat.worn (length gate.author.history, gate.entries) is.worn (record {
       published = omega arith;
       at_the_limit = reached;
@@ -33,6 +33,7 @@ module _ {M I : Type 0} (bounds : Bounds) where
     });
     no_entry = is.no_entry;
     no_look = λ none. absurd (none reader);
+    seen = seen_more seat.history gate.author.history seat.entered behind is.seen;
   }
 
   -- the roots change, but no version of the current root or of an old one
@@ -47,6 +48,7 @@ module _ {M I : Type 0} (bounds : Bounds) where
       of_an_old_root = λ root e is. kept.entries.of_an_old_root root e (old root e is).0 ∙ ap (times_entered gate) (sym (old root e is).1);
       only_published = kept.entries.only_published;
       only_by_readers = kept.entries.only_by_readers;
+      only_seen = kept.entries.only_seen;
     };
     worn = record {
       of_a_seat = λ seat. worn_more bounds gate next more (seat_at gate seat).worn (kept.worn.of_a_seat seat);
@@ -108,6 +110,7 @@ module _ {M I : Type 0} (bounds : Bounds) where
           (λ same c. absurd (now_is_not_old c)) (λ n same c. sym (old_is c) ∙ kept.entries.of_the_current_root) (λ n m old. kept.entries.of_an_old_root x e old);
       only_published = λ v some. omega (arith, kept.entries.only_published v some, one_longer);
       only_by_readers = kept.entries.only_by_readers;
+      only_seen = kept.entries.only_seen;
     };
     worn = record {
       of_a_seat = λ seat. worn_more bounds gate next more (seat_at gate seat).worn (kept.worn.of_a_seat seat);

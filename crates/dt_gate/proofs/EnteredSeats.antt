@@ -20,7 +20,7 @@ use Rattle.dt_gate.specs.Sound.{WasEntered}
 use Rattle.dt_gate.proofs.Kept.{Counted, Shown, Entered}
 use Rattle.dt_gate.proofs.Lists.{at_set, at_push, sum_same, one_same, one_other}
 use Rattle.dt_gate.proofs.Seats.{seat_here}
-use Rattle.dt_gate.proofs.Histories.{longer_mine}
+use Rattle.dt_gate.proofs.Histories.{prefix_length, longer_mine}
 use Rattle.dt_gate.proofs.CountedSeats.{old_not_current}
 
 module _ {M I : Type 0} where
@@ -32,6 +32,15 @@ module _ {M I : Type 0} where
   -- the author with what is seen here, and all else of another
   abbrev pub entered_author : Author M I → Author M I → Author M I
   entered_author author other = record other { current = author.current; roots = author.roots; history = author.history; taken = author.taken; worn = author.worn }
+
+module _ {I : Type 0} where
+  -- a history has seen each of these versions
+  abbrev pub AllAreSeen : List I → List ℕ → Type 0
+  AllAreSeen history versions = All (λ version. version ≤ length history) versions
+
+  -- so has one that is as long
+  pub seen_more : (history next : List I) (versions : List ℕ) → length history ≤ length next → AllAreSeen history versions → AllAreSeen next versions
+  seen_more history next versions more all k d below = omega (arith, all k d below, more)
 
 module _ {M I : Type 0} (bounds : Bounds) where
   pub worn_more : (gate next : Gate M I) → HasMore gate next → (looks : List (ℕ × ℕ)) → All (WasEntered bounds gate) looks → All (WasEntered bounds next) looks
@@ -51,26 +60,29 @@ module _ {M I : Type 0} (bounds : Bounds) where
     pub worn : All (WasEntered bounds gate) seat.worn
     pub no_entry : ¬ IsReader seat.stage → seat.entered ≡ []
     pub no_look : ¬ IsReader seat.stage → seat.worn ≡ []
+    pub seen : AllAreSeen seat.history seat.entered
 
   pub seat_is_entered : (gate : Gate M I) → Entered bounds gate → (seat : ℕ) → SeatIsEntered gate (seat_at gate seat)
-  seat_is_entered gate kept seat = record { worn = kept.worn.of_a_seat seat; no_entry = kept.entries.only_by_readers seat; no_look = kept.worn.only_by_readers seat }
+  seat_is_entered gate kept seat = record { worn = kept.worn.of_a_seat seat; no_entry = kept.entries.only_by_readers seat; no_look = kept.worn.only_by_readers seat; seen = kept.entries.only_seen seat }
 
-  -- a reader's seat keeps what it had
-  pub reader_is_entered : (gate : Gate M I) → Entered bounds gate → (seat : ℕ) (to : Seat M I) → to.worn ≡ (seat_at gate seat).worn → IsReader to.stage → SeatIsEntered gate to
-  reader_is_entered gate kept seat to same reader = record {
+  -- a reader's seat keeps what it had, and may see more
+  pub reader_is_entered : (gate : Gate M I) → Entered bounds gate → (seat : ℕ) (to : Seat M I) → to.worn ≡ (seat_at gate seat).worn → IsReader to.stage
+      → to.entered ≡ (seat_at gate seat).entered → length (seat_at gate seat).history ≤ length to.history → SeatIsEntered gate to
+  reader_is_entered gate kept seat to same reader as_entered more = record {
     worn = subst (All (WasEntered bounds gate)) (sym same) (kept.worn.of_a_seat seat);
     no_entry = λ none. absurd (none reader);
     no_look = λ none. absurd (none reader);
+    seen = subst (AllAreSeen to.history) (sym as_entered) (seen_more (seat_at gate seat).history to.history (seat_at gate seat).entered more (kept.entries.only_seen seat));
   }
 
   no_looks : (gate : Gate M I) → All (WasEntered bounds gate) []
   no_looks gate k d below = absurd (omega arith)
 
   pub given_is_entered : (gate : Gate M I) (stage : Stage) (history : List I) → SeatIsEntered gate (given stage history)
-  given_is_entered gate stage history = record { worn = no_looks gate; no_entry = λ h. refl; no_look = λ h. refl }
+  given_is_entered gate stage history = record { worn = no_looks gate; no_entry = λ h. refl; no_look = λ h. refl; seen = λ k d below. absurd (omega arith) }
 
   pub spent_is_entered : (gate : Gate M I) → SeatIsEntered gate spent
-  spent_is_entered gate = record { worn = no_looks gate; no_entry = λ h. refl; no_look = λ h. refl }
+  spent_is_entered gate = record { worn = no_looks gate; no_entry = λ h. refl; no_look = λ h. refl; seen = λ k d below. absurd (omega arith) }
 
   -- only what is not seen here changes, and no version is entered or taken
   pub entered_copy : (gate : Gate M I) (exits : List ℕ) (other : Author M I) → Entered bounds gate → Entered bounds (record gate { exits = exits; author = entered_author gate.author other })
@@ -83,6 +95,7 @@ module _ {M I : Type 0} (bounds : Bounds) where
           of_an_old_root = kept.entries.of_an_old_root;
           only_published = kept.entries.only_published;
           only_by_readers = kept.entries.only_by_readers;
+          only_seen = kept.entries.only_seen;
         };
         worn = record {
           of_a_seat = λ seat. worn_more gate next more (seat_at gate seat).worn (kept.worn.of_a_seat seat);
@@ -105,6 +118,7 @@ module _ {M I : Type 0} (bounds : Bounds) where
       of_an_old_root = λ root e is. kept.entries.of_an_old_root root e is ∙ sym (same (root_at gate.author root).version);
       only_published = λ v some. kept.entries.only_published v (omega (arith, some, same v));
       only_by_readers = λ seat. (each seat).no_entry;
+      only_seen = λ seat. (each seat).seen;
     };
     worn = record {
       of_a_seat = λ seat. worn_more gate next more (get_or seats seat spent).worn (each seat).worn;
@@ -188,6 +202,8 @@ module _ {M I : Type 0} (bounds : Bounds) where
       ];
       only_by_readers = λ x. at_set (λ (s : Seat M I). ¬ IsReader s.stage → s.entered ≡ []) spent gate.seats seat x to
           (λ e none. absurd (none tt)) (λ n. kept.entries.only_by_readers x) (λ past. kept.entries.only_by_readers x);
+      only_seen = λ x. at_set (λ (s : Seat M I). AllAreSeen s.history s.entered) spent gate.seats seat x to
+          (λ e. all_seen) (λ n. kept.entries.only_seen x) (λ past. kept.entries.only_seen x);
     };
     worn = record {
       of_a_seat = λ x. at_set (λ (s : Seat M I). All (WasEntered bounds next) s.worn) spent gate.seats seat x to
@@ -217,6 +233,11 @@ module _ {M I : Type 0} (bounds : Bounds) where
 
       more : HasMore gate next
       more = record { history = omega arith; times = λ v. omega (arith, times v) }
+
+      all_seen : AllAreSeen to.history to.entered
+      all_seen = All-push (λ v. v ≤ length gate.author.history) (seat_at gate seat).entered (length gate.author.history)
+          (seen_more (seat_at gate seat).history gate.author.history (seat_at gate seat).entered
+          (prefix_length (seat_at gate seat).history gate.author.history (shown.prefixes.of_a_seat seat)) (kept.entries.only_seen seat)) (omega arith)
 
       looks : (worn : List (ℕ × ℕ)) → All (WasEntered bounds gate) worn → All (WasEntered bounds next) worn
       looks = worn_more gate next more

@@ -39,6 +39,13 @@ module _ {I : Type 0} where
   pub longer_mine : (mine other : List I) → IsPrefix other mine → longer mine other ≡ mine
   longer_mine mine other p = ap (λ b. cond b other mine) (le-ltb (length mine) (length other) (prefix_length other mine p))
 
+  pub longer_is_longer : (mine other : List I) → length mine ≤ length (longer mine other)
+  longer_is_longer mine other = go (nat_lt (length mine) (length other)) refl
+    where
+      go : (b : Bool) → nat_lt (length mine) (length other) ≡ b → length mine ≤ length {A = I} (cond b other mine)
+      go true e = omega (arith, ltb-true (length mine) (length other) e)
+      go false e = omega arith
+
   -- both are prefixes of the longer, and that is one of what both are prefixes of
   pub longer_whole : (mine other whole : List I) → IsPrefix mine whole → IsPrefix other whole → IsPrefix (longer mine other) whole
   longer_whole mine other whole p q = go (nat_lt (length mine) (length other))

@@ -95,6 +95,7 @@ module _ {M I : Type 0} (shows : Reading → List I → Type 0) (bounds : Bounds
           of_an_old_root = λ x e is. absurd (never_old x e is);
           only_published = λ v some. absurd (omega (arith, some));
           only_by_readers = λ seat none. refl;
+          only_seen = λ seat k d below. absurd (omega arith);
         };
         worn = record {
           of_a_seat = λ seat k d below. absurd (omega arith);

@@ -1,5 +1,5 @@
 -- Every step keeps what is kept.
-use Rattle.std.proofs.Common.{◌≡◌, ℕ, ◌+◌, ◌-◌, ◌<◌, nat_lt, Bool, true, false, cond, List, [], ◌∷◌, ◌++◌, length, set, refl, sym, ap, subst, ◌∙◌, ltb-true, ltb-false}
+use Rattle.std.proofs.Common.{◌≡◌, ℕ, ◌+◌, ◌-◌, ◌<◌, nat_lt, Bool, true, false, cond, List, [], ◌∷◌, ◌++◌, length, set, refl, sym, ap, subst, ◌∙◌, arith, ltb-true, ltb-false}
 use mathlib.Core.List.{IsPrefix}
 use Rattle.dt_pages.specs.Reading.{Reading}
 use Rattle.dt_pages.specs.Laws.{ReachedPagesDecide}
@@ -21,7 +21,7 @@ use Rattle.dt_gate.specs.Events.{with_seat, history_of, IsHolder, exits_laid, af
 use Rattle.dt_gate.proofs.Kept.{Entered, Kept}
 use Rattle.dt_gate.proofs.Lists.{at_set}
 use Rattle.dt_gate.proofs.Roots.{lay_keeps_standing}
-use Rattle.dt_gate.proofs.Histories.{prefix_same, prefix_empty, prefix_trans}
+use Rattle.dt_gate.proofs.Histories.{prefix_same, prefix_empty, prefix_trans, prefix_length, longer_is_longer}
 use Rattle.dt_gate.proofs.CountedSeats.{counted_copy, counted_stays, counted_near, counted_enter, counted_seat_out, counted_note_out, counted_seat_back, counted_note_back}
 use Rattle.dt_gate.proofs.CountedRoots.{inside_is_live, counted_leave, counted_lay, counted_publish, counted_poll}
 use Rattle.dt_gate.proofs.ShownSeats.{SeatIsShown, seat_is_shown, outside_is_shown, spent_is_shown, shown_copy, shown_with_seat, shown_push, shown_joined, joined_is_shown, enter_is_shown}
@@ -59,14 +59,15 @@ module _ {M I : Type 0} (shows : Reading → List I → Type 0) (bounds : Bounds
       go true e = record {
         counted = counted_near bounds gate seat near kept.counted is refl (ltb-true gate.entries bounds.entries e);
         shown = shown_with_seat shows bounds gate seat near kept.shown (outside_is_shown shows gate.author near (λ root frozen c. cc) shown.history shown.joined);
-        entered = entered_stays bounds gate seat near kept.entered refl (reader_is_entered bounds gate kept.entered seat near refl tt);
+        entered = entered_stays bounds gate seat near kept.entered refl (reader_is_entered bounds gate kept.entered seat near refl tt refl (omega arith));
       }
       go false e = record {
         counted = counted_stays bounds gate seat worn kept.counted refl;
         shown = shown_with_seat shows bounds gate seat worn kept.shown (outside_is_shown shows gate.author worn not_inside (prefix_same gate.author.history)
             (prefix_trans s.joined.0 s.history gate.author.history shown.joined.0 shown.history, prefix_trans s.joined.1 s.history gate.author.history shown.joined.1 shown.history));
         entered = entered_stays bounds gate seat worn kept.entered refl
-            (worn_look bounds shows gate s kept.shown kept.entered (seat_is_entered bounds gate kept.entered seat) reader (ltb-false gate.entries bounds.entries e));
+            (worn_look bounds shows gate s kept.shown kept.entered (seat_is_entered bounds gate kept.entered seat) reader
+            (prefix_length s.history gate.author.history shown.history) (ltb-false gate.entries bounds.entries e));
       }
 
   kept_enter : (gate : Gate M I) (seat : ℕ) → Kept shows bounds gate → (seat_at gate seat).stage ≡ Near → Kept shows bounds (step bounds gate (Enter seat))
@@ -90,7 +91,7 @@ module _ {M I : Type 0} (shows : Reading → List I → Type 0) (bounds : Bounds
     shown = shown_with_seat shows bounds between seat to
         (shown_exits shows bounds gate root (exits_at gate root + 1) kept.shown (inside_is_live bounds gate kept.counted seat root frozen is))
         (outside_is_shown shows gate.author to (λ r f c. cc) shown.history shown.joined);
-    entered = entered_stays bounds between seat to entered_between refl (reader_is_entered bounds between entered_between seat to refl tt);
+    entered = entered_stays bounds between seat to entered_between refl (reader_is_entered bounds between entered_between seat to refl tt refl (omega arith));
   }
     where
       to : Seat M I
@@ -196,7 +197,7 @@ module _ {M I : Type 0} (shows : Reading → List I → Type 0) (bounds : Bounds
         counted = counted_stays bounds gate taker to kept.counted refl;
         shown = shown_with_seat shows bounds gate taker to kept.shown
             (joined_is_shown shows gate.author s history (seat_is_shown shows bounds gate kept.shown taker) (kept.shown.prefixes.of_a_seat note));
-        entered = entered_stays bounds gate taker to kept.entered refl (reader_is_entered bounds gate kept.entered taker to refl holds);
+        entered = entered_stays bounds gate taker to kept.entered refl (reader_is_entered bounds gate kept.entered taker to refl holds refl (longer_is_longer s.history history));
       })
       (at_set (λ (x : Seat M I). x.stage ≡ Note) spent gate.seats taker note to
       (λ e. absurd (subst IsReader (ap (λ k. (seat_at gate k).stage) (sym e) ∙ is) holds)) (λ n. is) (λ past. is))

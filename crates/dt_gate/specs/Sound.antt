@@ -114,7 +114,7 @@ module _ {M I : Type 0} where
     pub joined_by_a_seat : (seat : ℕ) → BothArePrefixes (seat_at gate seat).joined (seat_at gate seat).history
     pub joined_by_the_author : BothArePrefixes gate.author.joined gate.author.history
 
-  -- the entries of a root are the times that its version was entered
+  -- the entries of a root are the times that its version was entered, and who entered a version has seen so many
   pub record EntriesAreEntered (gate : Gate M I) : Type 0 where
     pub of_the_current_root :
         gate.entries ≡ times_entered gate (root_at gate.author gate.author.current).version
@@ -122,6 +122,7 @@ module _ {M I : Type 0} where
         → entries ≡ times_entered gate (root_at gate.author root).version
     pub only_published : (version : ℕ) → 0 < times_entered gate version → version ≤ length gate.author.history
     pub only_by_readers : (seat : ℕ) → ¬ IsReader (seat_at gate seat).stage → (seat_at gate seat).entered ≡ []
+    pub only_seen : (seat : ℕ) → All (λ version. version ≤ length (seat_at gate seat).history) (seat_at gate seat).entered
 
   -- a worn look is accounted for: its version was published, the number that it found is at least the limit,
   -- and its version was entered at least so often

@@ -1,6 +1,6 @@
 -- Sweeps: the author polls each old root once. All of this but the room that a sweep leaves speaks of the author's record alone,
 -- so it holds whatever readers do between the polls.
-use Rattle.std.specs.Prelude.{◌≡◌, ◌≢◌, ◌⊎◌, ℕ, ◌+◌, ◌<◌, ◌≤◌, true, false, List, [], ◌∷◌, ◌++◌, length, map}
+use Rattle.std.specs.Prelude.{◌≡◌, ◌≢◌, ◌⊎◌, ℕ, ◌+◌, ◌<◌, ◌≤◌, true, false, List, [], ◌∷◌, ◌++◌, length, map, filter}
 use Rattle.std.specs.List.{AllByRecursion}
 use Rattle.dt_pages.specs.Reading.{Reading}
 use Rattle.dt_gate.specs.declared.gate.Author.{Author}
@@ -37,26 +37,30 @@ module _ {M I : Type 0} where
     pub old : (root : ℕ) → stands_in root (polled reads) ≡ true → is_old (root_at author root).standing ≡ true
     pub once : AreDistinct (polled reads)
 
-  -- what was read of an old root decides: it is free where the exits are its final entries, and else old as it was
+  -- what was read of an old root decides: where the exits are its final entries it is free, with its words as they were,
+  -- and else it is as it was
   pub record ReadDecides (author next : Author M I) (read : ℕ × ℕ) : Type 0 where
     pub frees : (entries : ℕ) → (root_at author read.0).standing ≡ Old entries → read.1 ≡ entries
-        → (root_at next read.0).standing ≡ Free
+        → root_at next read.0 ≡ record (root_at author read.0) { standing = Free }
     pub holds : (entries : ℕ) → (root_at author read.0).standing ≡ Old entries → read.1 ≢ entries
-        → (root_at next read.0).standing ≡ Old entries
+        → root_at next read.0 ≡ root_at author read.0
 
-  -- where it leads: each poll is kept, once; each read decides; every old root is found held or not yet polled;
-  -- the other roots are as they were; where every old root was polled, each that is still old is held;
-  -- and the count of the sweep is that of the readers out, which stay
+  -- where it leads: each poll is kept, once; each read decides; what is held are the polled roots that are still old,
+  -- in the order of the polls; the other roots are as they were, and as many; where every old root was polled, each that
+  -- is still old is held; the count of the sweep is that of the readers out, which stay; all but the roots, what is held,
+  -- this count and the polls is as it was; and where nothing was polled, so are these
   pub record SweepLeads (author : Author M I) (reads : List (ℕ × ℕ)) (next : Author M I) : Type 0 where
     pub polls : next.polls ≡ author.polls ++ reads
     pub decides : AllByRecursion (ReadDecides author next) reads
-    pub held_or_to_come : (root : ℕ) → is_old (root_at next root).standing ≡ true
-        → stands_in root (polled reads) ≡ true → stands_in root next.held ≡ true
+    pub held : (reads ≡ []) ⊎ (next.held ≡ filter (λ root. is_old (root_at next root).standing) (polled reads))
     pub others : (root : ℕ) → stands_in root (polled reads) ≡ false → root_at next root ≡ root_at author root
+    pub as_many : length next.roots ≡ length author.roots
     pub whole : ((root : ℕ) → is_old (root_at author root).standing ≡ true → stands_in root (polled reads) ≡ true)
         → AllOldAreHeld next
     pub count : (reads ≡ []) ⊎ (next.sweep ≡ author.out)
     pub out : next.out ≡ author.out
+    pub no_more : next ≡ record author { roots = next.roots; held = next.held; sweep = next.sweep; polls = next.polls }
+    pub none : reads ≡ [] → next ≡ author
 
   -- no more roots are old than were found held, which are no more than the count of the sweep, and so no more than readers;
   -- and some root is free

@@ -1,15 +1,16 @@
 -- Sweeps of the busy gate and of gates that differ from it in one thing, and the words of the busy gate.
-use Rattle.std.specs.Prelude.{◌≡◌, ℕ, zero, suc, ◌+◌, ◌^◌, ◌<◌, ◌≤◌, Bool, true, false, List, [], ◌∷◌, refl}
-use Rattle.std.proofs.Common.{arith, inl, inr}
+use Rattle.std.specs.Prelude.{◌≡◌, ℕ, zero, suc, ◌+◌, ◌^◌, ◌<◌, ◌≤◌, Bool, true, false, List, [], ◌∷◌, ◌++◌, slice_set, ◌⊎◌, refl}
+use Rattle.std.proofs.Common.{ap, arith, inl, inr}
 use Rattle.std.proofs.lemmas.Bool.Decides.{nat_tests}
 use Rattle.dt_gate.specs.declared.access.Access.TheVariants.{Load, Add, Store, Swap}
 use Rattle.dt_gate.specs.declared.event.Event.TheVariants.{Look, Enter, Read, Leave, Fill, Lay, Publish, Poll}
 use Rattle.dt_gate.specs.declared.event.ReadWord.TheVariants as read
 use Rattle.dt_gate.specs.declared.event.RecordWord.TheVariants.{Top}
 use Rattle.dt_gate.specs.declared.gate.Author.{Author}
+use Rattle.dt_gate.specs.declared.gate.Root.{Root}
 use Rattle.dt_gate.specs.declared.gate.Standing.TheVariants.{Free}
-use Rattle.dt_gate.specs.Gate.{root_at, is_old, stands_in}
-use Rattle.dt_gate.specs.Sweeps.{after_polls, MayBeginASweep, IsOfASweep, LeavesRoom}
+use Rattle.dt_gate.specs.Gate.{blank_root, root_at, is_old, stands_in}
+use Rattle.dt_gate.specs.Sweeps.{after_polls, MayBeginASweep, IsOfASweep, SweepLeads, LeavesRoom}
 use Rattle.dt_gate.specs.Words.{words_of, access_of, accessed, found}
 use Rattle.dt_gate.specs.Busy.{two, zeros, busy, busy_author, old_root, current_root}
 
@@ -54,6 +55,47 @@ a_whole_sweep = refl
 -- the next one begins anew with its first poll, since root 0 is held already
 a_second_sweep : (after_polls three_old ((0, 1) ∷ (2, 2) ∷ (3, 1) ∷ (0, 2) ∷ (3, 1) ∷ [])).held ≡ 3 ∷ []
 a_second_sweep = refl
+
+-- a sweep that polled root 0 alone, which one reader is still inside
+abbrev one_held : Author ℕ ℕ
+one_held = record three_old { held = 0 ∷ []; sweep = 2; polls = (0, 1) ∷ [] }
+
+a_part_of_a_sweep : after_polls three_old ((0, 1) ∷ []) ≡ one_held
+a_part_of_a_sweep = refl
+
+-- it leaves in the root that is held what the reader found
+a_sweep_that_lays_a_held_root : ¬ SweepLeads three_old ((0, 1) ∷ []) (record one_held { roots = slice_set one_held.roots 0 (record old_root { version = 9; top = 5 }) })
+a_sweep_that_lays_a_held_root leads =
+    let is : ◌≡◌ {A = ℕ} 9 0 = ap (λ (root : Root). root.version) (leads.decides.0.holds 2 refl (λ same. omega (arith, same))) in absurd (omega (arith, is))
+
+-- and in one that it frees
+a_sweep_that_lays_a_freed_root : ¬ SweepLeads three_old ((0, 2) ∷ []) (record three_old {
+  roots = slice_set three_old.roots 0 (record old_root { version = 9; top = 5; standing = Free });
+  sweep = 2;
+  polls = (0, 2) ∷ [];
+})
+a_sweep_that_lays_a_freed_root leads =
+    let is : ◌≡◌ {A = ℕ} 9 0 = ap (λ (root : Root). root.version) (leads.decides.0.frees 2 refl refl) in absurd (omega (arith, is))
+
+-- it changes neither the current root nor pages nor the history
+a_sweep_that_forgets : ¬ SweepLeads three_old ((0, 1) ∷ []) (record one_held { current = 3; words = []; history = [] })
+a_sweep_that_forgets leads = let is : ◌≡◌ {A = ℕ} 3 1 = ap (λ (author : Author ℕ ℕ). author.current) leads.no_more in absurd (omega (arith, is))
+
+-- it finds held what it polled, and each once
+a_sweep_that_holds_the_current_root : ¬ SweepLeads three_old ((0, 1) ∷ []) (record one_held { held = 0 ∷ 1 ∷ [] })
+a_sweep_that_holds_the_current_root leads = held leads.held
+  where
+    held : (◌≡◌ {A = List (ℕ × ℕ)} ((0, 1) ∷ []) []) ⊎ (◌≡◌ {A = List ℕ} (0 ∷ 1 ∷ []) (0 ∷ [])) → ⊥
+    held (inl none) = cc
+    held (inr same) = cc
+
+-- it adds no root, though one past the last reads as a blank one
+a_sweep_that_adds_a_root : ¬ SweepLeads three_old ((0, 1) ∷ []) (record one_held { roots = one_held.roots ++ blank_root ∷ [] })
+a_sweep_that_adds_a_root leads = let is : ◌≡◌ {A = ℕ} 5 4 = leads.as_many in absurd (omega (arith, is))
+
+-- nor does it begin with no poll
+a_sweep_of_no_poll : ¬ SweepLeads three_old [] (record three_old { sweep = 2 })
+a_sweep_of_no_poll leads = let is : ◌≡◌ {A = ℕ} 2 1 = ap (λ (author : Author ℕ ℕ). author.sweep) (leads.none refl) in absurd (omega (arith, is))
 
 -- neither nothing is held, nor each old root: a poll of root 0 would go on with the sweep that found root 2 held
 no_sweep_begins_in_the_midst : ¬ MayBeginASweep (record three_old { held = 2 ∷ [] })

@@ -261,6 +261,10 @@ a_version_entered_before_it_was_published part = let is : 2 ≤ 1 = part.only_pu
 a_note_that_entered : ¬ EntriesAreEntered (record busy { seats = record inside_seat { entered = [] } ∷ out_seat ∷ record (note_of (7 ∷ [])) { entered = 0 ∷ [] } ∷ note_of [] ∷ [] })
 a_note_that_entered part = let is : ◌≡◌ {A = List ℕ} (0 ∷ []) [] = part.only_by_readers 2 (λ reader. reader) in cc
 
+-- the seat that is out entered version 1, which is one item
+a_version_entered_unseen : ¬ EntriesAreEntered (with_readers inside_seat (record out_seat { history = [] }))
+a_version_entered_unseen part = let is : 1 ≤ 0 = part.only_seen 1 1 0 (omega arith) in absurd (omega (arith, is))
+
 -- ---- worn looks were entered and taken
 
 -- the busy gate where the seat that is out has these worn looks
