@@ -65,30 +65,28 @@ fn is_alike(
     Some(is_alike && is_same(two.stands(), stands) && is_same(two.tried(), stands))
 }
 
-/// The number, from 1, of the first batch after which the two differ; 0 where there is none.
-fn first_apart(alloc: Global, two: &mut TwoPrograms, stands: &mut Program) -> u32 {
-    let mut number = 0;
+/// Whether the two never differ, along the history.
+fn all_alike(alloc: Global, two: &mut TwoPrograms, stands: &mut Program) -> bool {
     for (words, is_accepted) in HISTORY {
-        number += 1;
         if is_alike(alloc, two, stands, words, is_accepted) != Some(true) {
-            return number;
+            return false;
         }
     }
-    0
+    true
 }
 
-fn first_apart_from(alloc: Global, two: &mut TwoPrograms) -> Option<u32> {
+fn all_alike_from(alloc: Global, two: &mut TwoPrograms) -> Option<bool> {
     let mut stands = Program::new(alloc).ok()?;
-    Some(first_apart(alloc, two, &mut stands))
+    Some(all_alike(alloc, two, &mut stands))
 }
 
-fn first_apart_of_all(alloc: Global) -> Option<u32> {
+fn all_are_alike(alloc: Global) -> Option<bool> {
     let mut two = TwoPrograms::new(alloc).ok()?;
-    first_apart_from(alloc, &mut two)
+    all_alike_from(alloc, &mut two)
 }
 
 #[test]
 fn batches_are_tried(rt: HostRuntime) -> Result<(), Fail> {
-    assert_eq!(rt; first_apart_of_all(rt.alloc()), Some(0));
+    assert!(rt; all_are_alike(rt.alloc()) == Some(true));
     Ok(())
 }
