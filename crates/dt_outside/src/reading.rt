@@ -5,15 +5,19 @@ ghost use Rattle.dt_outside.specs.ReadCounts.{IsReadCounted};
 
 use crate::source::Source;
 use std::alloc::{AllocError, Global};
+use thiserror::Error;
 
 /// Why a source wasn't read to its end.
-#[derive(Clone, Copy, Debug, PartialEq, Eq)]
+#[derive(Clone, Copy, Debug, PartialEq, Eq, Error)]
 pub enum ReadFault {
     /// The source failed.
+    #[error("the source failed")]
     Read,
     /// The source gave more bytes than the limit.
+    #[error("the source gave more bytes than the limit")]
     TooLong,
     /// Memory was wanted, and none was found.
+    #[error("no memory")]
     NoMemory,
 }
 

@@ -10,15 +10,19 @@ use crate::numbered_line::number_line;
 use crate::written_line::written_line;
 use dt_selectors::NameFault;
 use std::alloc::Global;
+use thiserror::Error;
 
 /// Why bytes give no line.
-#[derive(Clone, Copy, Debug, PartialEq, Eq)]
+#[derive(Clone, Copy, Debug, PartialEq, Eq, Error)]
 pub enum LineFault {
     /// No line is spelled so.
+    #[error("no line is spelled so")]
     Malformed,
     /// The line has a new name, and there are as many names of its kind as there may be.
+    #[error("there are as many names as there may be")]
     NamesFull,
     /// Memory was wanted, and none was found.
+    #[error("no memory")]
     NoMemory,
 }
 
