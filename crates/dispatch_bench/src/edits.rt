@@ -9,7 +9,7 @@ use dt_definitions::{
 };
 use std::alloc::Global;
 
-/// How many edits of a kind are drawn.
+// How many edits of a kind are drawn.
 const EDITS: u16 = 50;
 
 /// Edits that are accepted one after another, and the edits that undo them.
@@ -34,7 +34,7 @@ pub fn definition(batches: &[Batch], number: u16) -> Option<(SelNo, Tuple, BodyN
     }
 }
 
-/// The first parent of the class, as the batches of a generated program have it.
+// The first parent of the class, as the batches of a generated program have it.
 fn first_parent(batches: &[Batch], class: ClassNo) -> Option<ClassNo> {
     let batch = batches.first()?;
     match batch.edit(u32::from(class.number()) + 1)? {
@@ -43,7 +43,7 @@ fn first_parent(batches: &[Batch], class: ClassNo) -> Option<ClassNo> {
     }
 }
 
-/// The body of the selector at these classes.
+// The body of the selector at these classes.
 fn body_at(program: &Program, selector: SelNo, classes: &Tuple) -> Option<BodyNo> {
     for defined in program.definitions_of(selector) {
         if defined.classes == *classes {
@@ -53,7 +53,7 @@ fn body_at(program: &Program, selector: SelNo, classes: &Tuple) -> Option<BodyNo
     None
 }
 
-/// What undoes a definition: the one that it replaces, or that it goes.
+// What undoes a definition: the one that it replaces, or that it goes.
 fn undo_of_define(program: &Program, selector: SelNo, classes: Tuple) -> Edit {
     match body_at(program, selector, &classes) {
         Some(body) => Edit::Define {
@@ -65,7 +65,7 @@ fn undo_of_define(program: &Program, selector: SelNo, classes: Tuple) -> Edit {
     }
 }
 
-/// What undoes the end of a definition, if there is one.
+// What undoes the end of a definition, if there is one.
 fn undo_of_undefine(program: &Program, selector: SelNo, classes: Tuple) -> Option<Edit> {
     let body = body_at(program, selector, &classes)?;
     Some(Edit::Define {
@@ -75,7 +75,7 @@ fn undo_of_undefine(program: &Program, selector: SelNo, classes: Tuple) -> Optio
     })
 }
 
-/// The edit that undoes this one, of those that are tried.
+// The edit that undoes this one, of those that are tried.
 fn undo_of(program: &Program, edit: &Edit) -> Option<Edit> {
     match edit {
         Edit::AddClass { class, .. } => Some(Edit::DropClass { class: *class }),
@@ -97,14 +97,14 @@ fn undo_of(program: &Program, edit: &Edit) -> Option<Edit> {
     }
 }
 
-/// Puts an edit, and what undoes it, behind the others.
+// Puts an edit, and what undoes it, behind the others.
 fn keep(trial: &mut Trial, edit: Edit, undo: Edit) -> Result<(), NoMemory> {
     trial.edits.push(edit)?;
     trial.undo.push(undo)?;
     Ok(())
 }
 
-/// Keeps the edit where it is accepted.
+// Keeps the edit where it is accepted.
 fn keep_if_accepted(program: &mut Program, trial: &mut Trial, edit: Edit) -> Result<(), NoMemory> {
     let Some(undo) = undo_of(program, &edit) else {
         return Ok(());
@@ -115,7 +115,7 @@ fn keep_if_accepted(program: &mut Program, trial: &mut Trial, edit: Edit) -> Res
     Ok(())
 }
 
-/// Those of the edits that are accepted one after another. The program is left as they found it.
+// Those of the edits that are accepted one after another. The program is left as they found it.
 fn keep_accepted(
     alloc: Global,
     program: &mut Program,
@@ -133,7 +133,7 @@ fn keep_accepted(
     Ok(trial)
 }
 
-/// Draws the number of a definition, and answers that definition.
+// Draws the number of a definition, and answers that definition.
 fn draw_defined(
     draws: &mut Draws,
     size: Size,
@@ -233,7 +233,7 @@ pub fn new_classes(
     keep_accepted(alloc, program, edits)
 }
 
-/// A batch of so many definitions that are drawn, each by the body that it adds to.
+// A batch of so many definitions that are drawn, each by the body that it adds to.
 fn drawn_batch(
     alloc: Global,
     draws: &mut Draws,

@@ -26,7 +26,7 @@ pub fn put(batch: &mut Batch, edit: Edit) -> Result<(), NoMemory>
     }
 }
 
-/// Draws the parents of a class: none for class 0, else one or two classes before it.
+// Draws the parents of a class: none for class 0, else one or two classes before it.
 fn draw_parents(alloc: Global, draws: &mut Draws, class: u16) -> Result<Parents, NoMemory>
     requires { class < CLASSES }
     ensures parents { IfOk result (λ parents. parents ≡ rule.parents_drawn draws.old class) }
@@ -59,7 +59,7 @@ pub fn draw_class_edit(alloc: Global, draws: &mut Draws, class: u16) -> Result<E
     })
 }
 
-/// The batch that adds the classes.
+// The batch that adds the classes.
 fn class_batch(alloc: Global, draws: &mut Draws, size: Size) -> Result<Batch, NoMemory>
     ensures batch { IfOk result (λ batch. batch ≡ rule.class_edits draws.old size.classes) }
     ensures state { OnOk result (draws.new ≡ rule.after_classes draws.old size.classes) }
@@ -79,7 +79,7 @@ pub fn takes_two(selector: u16) -> bool
     selector % 50 == 49
 }
 
-/// How many arguments the selector takes.
+// How many arguments the selector takes.
 fn arity(selector: u16) -> Arity
     ensures { result ≡ rule.arity_of_number selector }
 {
@@ -87,7 +87,7 @@ fn arity(selector: u16) -> Arity
     Arity::new(number).unwrap()
 }
 
-/// The edit that adds this selector.
+// The edit that adds this selector.
 fn selector_edit(selector: u16) -> Edit
     requires { selector < SELECTORS }
     ensures { (state : ℕ) → result ≡ rule.selector_edit state selector }
@@ -98,7 +98,7 @@ fn selector_edit(selector: u16) -> Edit
     }
 }
 
-/// The batch that adds the selectors.
+// The batch that adds the selectors.
 fn selector_batch(alloc: Global, size: Size) -> Result<Batch, NoMemory>
     ensures { IfOk result (λ batch. batch ≡ rule.selector_edits size.selectors) }
 {
@@ -123,7 +123,7 @@ pub fn draw_tuple(draws: &mut Draws, size: Size, selector: u16) -> Tuple
     Tuple::new(&[first]).unwrap()
 }
 
-/// The definition of this number, at classes that are drawn.
+// The definition of this number, at classes that are drawn.
 fn draw_definition(draws: &mut Draws, size: Size, number: u16) -> Edit
     ensures edit { result ≡ rule.definition_edit size.classes size.selectors draws.old number }
     ensures state { draws.new ≡ rule.after_definition size.selectors draws.old number }
@@ -144,7 +144,7 @@ pub fn definition_count(size: Size) -> u16
     3 * size.selectors
 }
 
-/// The batch of definitions of this number, from 0.
+// The batch of definitions of this number, from 0.
 fn definition_batch(
     alloc: Global,
     draws: &mut Draws,
@@ -165,7 +165,7 @@ fn definition_batch(
     Ok(batch)
 }
 
-/// Puts the batches of definitions behind the others.
+// Puts the batches of definitions behind the others.
 fn push_definitions(
     alloc: Global,
     draws: &mut Draws,

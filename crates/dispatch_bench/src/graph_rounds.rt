@@ -13,10 +13,10 @@ use crate::table::Table;
 use dt_graph::{CLASSES, ClassGraph, ClassNo};
 use std::rt::Clock;
 
-/// How often a round makes each change.
+// How often a round makes each change.
 const CHANGES: u32 = 16;
 
-/// How often a round asks for the classes below one.
+// How often a round asks for the classes below one.
 const DESCENDANTS: u32 = 4;
 
 /// A shape, and how many classes a graph of it has.
@@ -40,7 +40,7 @@ impl GraphPlan {
     }
 }
 
-/// A change of a graph.
+// A change of a graph.
 #[derive(Clone, Copy, Debug)]
 enum Change {
     Link { class: ClassNo, parent: ClassNo },
@@ -50,7 +50,7 @@ enum Change {
 }
 
 impl Change {
-    /// Makes the change, and tells whether it was accepted.
+    // Makes the change, and tells whether it was accepted.
     fn make(self, graph: &mut ClassGraph, shape: Shape) -> bool {
         match self {
             Change::Link { class, parent } => graph.link(class, parent).is_ok(),
@@ -61,7 +61,7 @@ impl Change {
     }
 }
 
-/// Makes a change, and answers how many nanoseconds it took.
+// Makes a change, and answers how many nanoseconds it took.
 fn time_change(
     rt: &impl Clock,
     graph: &mut ClassGraph,
@@ -76,21 +76,21 @@ fn time_change(
     Ok(time)
 }
 
-/// A change, and what is measured by it.
+// A change, and what is measured by it.
 #[derive(Clone, Copy, Debug)]
 struct Timed {
     change: Change,
     metric: Metric,
 }
 
-/// A change and the one that undoes it.
+// A change and the one that undoes it.
 #[derive(Clone, Copy, Debug)]
 struct Pair {
     there: Timed,
     back: Timed,
 }
 
-/// Times a change and the one that undoes it, in turn.
+// Times a change and the one that undoes it, in turn.
 fn time_changes(
     rt: &impl Clock,
     table: &mut Table,
@@ -115,7 +115,7 @@ fn time_changes(
     Ok(())
 }
 
-/// Times the class in the middle of a chain: the link to it goes, untimed; then it goes and comes.
+// Times the class in the middle of a chain: the link to it goes, untimed; then it goes and comes.
 fn time_middle(
     rt: &impl Clock,
     table: &mut Table,
@@ -145,7 +145,7 @@ fn time_middle(
     Ok(())
 }
 
-/// Times the classes below the one in the middle.
+// Times the classes below the one in the middle.
 fn time_descendants(
     rt: &impl Clock,
     table: &mut Table,
@@ -164,7 +164,7 @@ fn time_descendants(
     Ok(())
 }
 
-/// The link in the middle that goes and comes, if there is one; in a star it comes and goes.
+// The link in the middle that goes and comes, if there is one; in a star it comes and goes.
 fn middle_pair(plan: GraphPlan) -> Option<Pair> {
     let (class, parent) = plan.shape.middle_link(plan.classes)?;
     let link = Timed {
@@ -187,7 +187,7 @@ fn middle_pair(plan: GraphPlan) -> Option<Pair> {
     })
 }
 
-/// The last class, which goes and comes.
+// The last class, which goes and comes.
 fn last_pair(plan: GraphPlan) -> Pair {
     let class = ClassNo::new(plan.classes - 1).unwrap();
     Pair {
@@ -202,7 +202,7 @@ fn last_pair(plan: GraphPlan) -> Pair {
     }
 }
 
-/// Times a round.
+// Times a round.
 fn time_round(
     rt: &impl Clock,
     table: &mut Table,
@@ -224,7 +224,7 @@ fn time_round(
     Ok(())
 }
 
-/// Times the rounds of a graph.
+// Times the rounds of a graph.
 fn time_rounds<R: Clock + AllocGlobal>(
     rt: &R,
     table: &mut Table,
@@ -239,7 +239,7 @@ fn time_rounds<R: Clock + AllocGlobal>(
     Ok(())
 }
 
-/// Draws pairs of classes, and times a graph.
+// Draws pairs of classes, and times a graph.
 fn time_with_pairs<R: Clock + AllocGlobal>(
     rt: &R,
     table: &mut Table,

@@ -39,7 +39,7 @@ use table::Table;
 use tiny::print_counts;
 use words::{Command, read_command};
 
-/// The words after the program's name.
+// The words after the program's name.
 fn given_words<R: Env + AllocGlobal>(rt: &R) -> Result<Vec<String>, Fault> {
     let mut words = Vec::new(rt.alloc());
     for word in env::args(rt)?.skip(1) {
@@ -48,7 +48,7 @@ fn given_words<R: Env + AllocGlobal>(rt: &R) -> Result<Vec<String>, Fault> {
     Ok(words)
 }
 
-/// Times a generated program, and prints the figures under this name.
+// Times a generated program, and prints the figures under this name.
 fn print_program<R: Print + Clock + Files + AllocGlobal>(
     rt: &R,
     name: &str,
@@ -61,7 +61,7 @@ fn print_program<R: Print + Clock + Files + AllocGlobal>(
     Ok(())
 }
 
-/// Times a graph, and prints the figures under this name.
+// Times a graph, and prints the figures under this name.
 fn print_graph<R: Print + Clock + AllocGlobal>(
     rt: &R,
     name: &str,
@@ -73,7 +73,7 @@ fn print_graph<R: Print + Clock + AllocGlobal>(
     Ok(())
 }
 
-/// Times a selector with so many definitions, and prints the figures under this name.
+// Times a selector with so many definitions, and prints the figures under this name.
 fn print_selector<R: Print + Clock + AllocGlobal>(
     rt: &R,
     name: &str,
@@ -85,7 +85,7 @@ fn print_selector<R: Print + Clock + AllocGlobal>(
     Ok(())
 }
 
-/// The name of the figures of a generated program.
+// The name of the figures of a generated program.
 fn program_name(alloc: Global, size: Size) -> Result<String, Fault> {
     let Size {
         classes,
@@ -95,19 +95,19 @@ fn program_name(alloc: Global, size: Size) -> Result<String, Fault> {
     Ok(format!(in alloc; "engine-scratch {classes}/{selectors}")?)
 }
 
-/// The name of the figures of a graph.
+// The name of the figures of a graph.
 fn graph_name(alloc: Global, plan: GraphPlan) -> Result<String, Fault> {
     let word = plan.shape.word();
     let classes = plan.classes;
     Ok(format!(in alloc; "graph-{word} {classes}")?)
 }
 
-/// The name of the figures of a selector.
+// The name of the figures of a selector.
 fn selector_name(alloc: Global, definitions: u16) -> Result<String, Fault> {
     Ok(format!(in alloc; "selector {definitions}")?)
 }
 
-/// Does what the words ask for, and answers whether they ask for anything.
+// Does what the words ask for, and answers whether they ask for anything.
 fn run<R: Print + Clock + Files + Env + AllocGlobal>(rt: &R) -> Result<bool, Fault> {
     let words = given_words(rt)?;
     match read_command(&words) {

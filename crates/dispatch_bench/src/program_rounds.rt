@@ -19,13 +19,13 @@ use std::rt::{Clock, Files};
 /// How many rounds are timed.
 pub const ROUNDS: u32 = 21;
 
-/// How often a round tries the batch that is refused.
+// How often a round tries the batch that is refused.
 const BATCHES: u32 = 4;
 
-/// How many bytes a page of the process has.
+// How many bytes a page of the process has.
 const PAGE: u64 = 4096;
 
-/// What each round asks.
+// What each round asks.
 #[derive(Drop)]
 struct Asked {
     hits_of_one: Vec<Query>,
@@ -35,7 +35,7 @@ struct Asked {
 }
 
 impl Asked {
-    /// Draws what is asked of this program.
+    // Draws what is asked of this program.
     fn draw(
         alloc: Global,
         draws: &mut Draws,
@@ -52,7 +52,7 @@ impl Asked {
     }
 }
 
-/// The edits of definitions of each round.
+// The edits of definitions of each round.
 #[derive(Drop)]
 struct Defining {
     undefines: Trial,
@@ -60,7 +60,7 @@ struct Defining {
 }
 
 impl Defining {
-    /// Draws the edits for this program, which is left as it is found.
+    // Draws the edits for this program, which is left as it is found.
     fn draw(
         alloc: Global,
         draws: &mut Draws,
@@ -74,7 +74,7 @@ impl Defining {
         })
     }
 
-    /// How many edits there are.
+    // How many edits there are.
     fn len(&self) -> usize {
         self.undefines
             .edits
@@ -83,7 +83,7 @@ impl Defining {
     }
 }
 
-/// The edits of classes and links of each round.
+// The edits of classes and links of each round.
 #[derive(Drop)]
 struct Linking {
     links: Trial,
@@ -92,7 +92,7 @@ struct Linking {
 }
 
 impl Linking {
-    /// Draws the edits for this program, which is left as it is found.
+    // Draws the edits for this program, which is left as it is found.
     fn draw(
         alloc: Global,
         draws: &mut Draws,
@@ -107,7 +107,7 @@ impl Linking {
         })
     }
 
-    /// How many edits there are.
+    // How many edits there are.
     fn len(&self) -> usize {
         self.links
             .edits
@@ -149,17 +149,17 @@ impl Workload {
     }
 }
 
-/// How many operations a list has.
+// How many operations a list has.
 fn operations<T>(list: &Vec<T>) -> u32 {
     u32::try_from(list.len()).unwrap_or(u32::MAX)
 }
 
-/// How many pages are resident, the second number of the text.
+// How many pages are resident, the second number of the text.
 fn resident_pages(text: &str) -> Option<u64> {
     text.split_whitespace().nth(1)?.parse::<u64>().ok()
 }
 
-/// The resident memory of the process in thousandths of a million bytes.
+// The resident memory of the process in thousandths of a million bytes.
 fn memory<R: Files + AllocGlobal>(rt: &R) -> Result<u64, Fault> {
     let text = fs::read_to_string(rt, "/proc/self/statm")?;
     match resident_pages(text.as_str()) {
@@ -168,7 +168,7 @@ fn memory<R: Files + AllocGlobal>(rt: &R) -> Result<u64, Fault> {
     }
 }
 
-/// Times the queries.
+// Times the queries.
 fn time_queries(
     rt: &impl Clock,
     table: &mut Table,
@@ -186,7 +186,7 @@ fn time_queries(
     watch.stop(rt, table, metric, count)
 }
 
-/// Times the edits.
+// Times the edits.
 fn time_edits(
     rt: &impl Clock,
     table: &mut Table,
@@ -204,7 +204,7 @@ fn time_edits(
     watch.stop(rt, table, metric, count)
 }
 
-/// Times the edits, and undoes them.
+// Times the edits, and undoes them.
 fn time_trial(
     rt: &impl Clock,
     table: &mut Table,
@@ -218,7 +218,7 @@ fn time_trial(
     Ok(())
 }
 
-/// Times the load of a program by its batches.
+// Times the load of a program by its batches.
 fn time_load<R: Clock + AllocGlobal>(
     rt: &R,
     table: &mut Table,
@@ -232,7 +232,7 @@ fn time_load<R: Clock + AllocGlobal>(
     Ok(())
 }
 
-/// Times a copy of the program.
+// Times a copy of the program.
 fn time_copy(
     rt: &impl Clock,
     table: &mut Table,
@@ -246,7 +246,7 @@ fn time_copy(
     Ok(())
 }
 
-/// Times a batch that is refused, which leaves the program as it is.
+// Times a batch that is refused, which leaves the program as it is.
 fn time_refused(
     rt: &impl Clock,
     table: &mut Table,
@@ -284,7 +284,7 @@ pub fn time_pairs(
     Ok(())
 }
 
-/// Times the look-ups of a round.
+// Times the look-ups of a round.
 fn time_lookups(
     rt: &impl Clock,
     table: &mut Table,
@@ -302,7 +302,7 @@ fn time_lookups(
     time_pairs(rt, table, program.graph(), &asked.pairs, mix)
 }
 
-/// Times the edits of definitions of a round, each kind on the program as it was.
+// Times the edits of definitions of a round, each kind on the program as it was.
 fn time_defining(
     rt: &impl Clock,
     table: &mut Table,
@@ -319,7 +319,7 @@ fn time_defining(
     time_trial(rt, table, Metric::Redefine, program, redefines, mix)
 }
 
-/// Times the edits of classes and links of a round, each kind on the program as it was.
+// Times the edits of classes and links of a round, each kind on the program as it was.
 fn time_linking(
     rt: &impl Clock,
     table: &mut Table,
@@ -338,7 +338,7 @@ fn time_linking(
     time_edits(rt, table, Metric::DropEdit, program, &classes.undo, mix)
 }
 
-/// Times a round.
+// Times a round.
 fn time_round<R: Clock + AllocGlobal>(
     rt: &R,
     table: &mut Table,
@@ -357,7 +357,7 @@ fn time_round<R: Clock + AllocGlobal>(
     Ok(())
 }
 
-/// Draws the work for a program, and times its rounds.
+// Draws the work for a program, and times its rounds.
 fn time_rounds<R: Clock + AllocGlobal>(
     rt: &R,
     table: &mut Table,
@@ -373,7 +373,7 @@ fn time_rounds<R: Clock + AllocGlobal>(
     Ok(())
 }
 
-/// Loads a program by its batches, and times it.
+// Loads a program by its batches, and times it.
 fn time_batches<R: Clock + Files + AllocGlobal>(
     rt: &R,
     table: &mut Table,

@@ -12,10 +12,10 @@ use std::alloc::Global;
 /// How many queries, or pairs of classes, a round asks.
 pub const QUERIES: usize = 1024;
 
-/// How many calls are drawn at most to find those queries.
+// How many calls are drawn at most to find those queries.
 const TRIES: u32 = 262_144;
 
-/// How many calls with two arguments are drawn at most.
+// How many calls with two arguments are drawn at most.
 const TRIES_OF_TWO: u32 = 4_096;
 
 /// Whether a method answers the query.
@@ -51,7 +51,7 @@ pub fn calls_of_one(
     Ok(calls)
 }
 
-/// Draws a class at or below this one.
+// Draws a class at or below this one.
 fn draw_below(
     alloc: Global,
     draws: &mut Draws,
@@ -69,7 +69,7 @@ fn draw_below(
     Ok(drawn.number())
 }
 
-/// Draws a call of a selector with two arguments, at classes below those of one of its definitions.
+// Draws a call of a selector with two arguments, at classes below those of one of its definitions.
 fn draw_call_of_two(
     alloc: Global,
     draws: &mut Draws,

@@ -13,31 +13,31 @@ use dt_scratch::{Query, resolve};
 use std::alloc::Global;
 use std::rt::Clock;
 
-/// How many classes stand below the first one.
+// How many classes stand below the first one.
 const LEAVES: u16 = 60;
 
 /// How many definitions the selector has at most: one at each pair of leaves.
 pub const MOST: u16 = LEAVES * LEAVES;
 
-/// How often a round makes each change.
+// How often a round makes each change.
 const CHANGES: u32 = 16;
 
-/// The class of this number.
+// The class of this number.
 fn class(number: u16) -> ClassNo {
     ClassNo::new(number).unwrap_or_default()
 }
 
-/// The selector, which has the number 0 and takes two arguments.
+// The selector, which has the number 0 and takes two arguments.
 fn selector() -> SelNo {
     SelNo::new(0).unwrap_or_default()
 }
 
-/// The leaves at which the definition of this number stands.
+// The leaves at which the definition of this number stands.
 fn leaves(number: u16) -> (u16, u16) {
     (1 + number / LEAVES % LEAVES, 1 + number % LEAVES)
 }
 
-/// The definition of the selector at these classes.
+// The definition of the selector at these classes.
 fn define(first: u16, second: u16, body: u16) -> Option<Edit> {
     Some(Edit::Define {
         selector: selector(),
@@ -46,7 +46,7 @@ fn define(first: u16, second: u16, body: u16) -> Option<Edit> {
     })
 }
 
-/// The edits that make a class with its leaves, and the selector.
+// The edits that make a class with its leaves, and the selector.
 fn ground(alloc: Global) -> Result<Batch, NoMemory> {
     let mut batch = Batch::new(alloc);
     put(
@@ -77,7 +77,7 @@ fn ground(alloc: Global) -> Result<Batch, NoMemory> {
     Ok(batch)
 }
 
-/// The batch of so many definitions.
+// The batch of so many definitions.
 fn definitions(alloc: Global, count: u16) -> Result<Batch, NoMemory> {
     let mut batch = Batch::new(alloc);
     for number in 0..count {
@@ -89,7 +89,7 @@ fn definitions(alloc: Global, count: u16) -> Result<Batch, NoMemory> {
     Ok(batch)
 }
 
-/// The program of a selector with so many definitions.
+// The program of a selector with so many definitions.
 fn program(alloc: Global, count: u16) -> Result<Program, NoMemory> {
     let mut batches = Vec::new(alloc);
     batches.push(ground(alloc)?)?;
@@ -97,7 +97,7 @@ fn program(alloc: Global, count: u16) -> Result<Program, NoMemory> {
     load(alloc, &batches)
 }
 
-/// Times an edit.
+// Times an edit.
 fn time_edit(
     rt: &impl Clock,
     table: &mut Table,
@@ -113,7 +113,7 @@ fn time_edit(
     Ok(())
 }
 
-/// Times a definition that comes among the others, and goes again.
+// Times a definition that comes among the others, and goes again.
 fn time_definition(
     rt: &impl Clock,
     table: &mut Table,
@@ -139,7 +139,7 @@ fn time_definition(
     Ok(())
 }
 
-/// Times a call at the classes of each definition.
+// Times a call at the classes of each definition.
 fn time_calls(
     rt: &impl Clock,
     table: &mut Table,
@@ -157,7 +157,7 @@ fn time_calls(
     watch.stop(rt, table, Metric::HitsOfTwo, u32::from(count).max(1))
 }
 
-/// Times a round.
+// Times a round.
 fn time_round(
     rt: &impl Clock,
     table: &mut Table,

@@ -4,7 +4,7 @@ ghost use Rattle.dt_graph.specs.declared.limits.TheConstants.{CLASSES};
 use dt_graph::{ClassGraph, ClassNo, GraphFault, NoMemory};
 use std::alloc::Global;
 
-/// How many classes stand in a row of the graph of diamonds.
+// How many classes stand in a row of the graph of diamonds.
 const WIDTH: u16 = 16;
 
 /// How the classes of a graph hang together.
@@ -29,7 +29,7 @@ impl Shape {
         }
     }
 
-    /// The parents of the class of this number, at most two.
+    // The parents of the class of this number, at most two.
     fn parents(self, class: u16) -> (Option<ClassNo>, Option<ClassNo>) {
         match self {
             Shape::Chain => (class.checked_sub(1).and_then(ClassNo::new), None),

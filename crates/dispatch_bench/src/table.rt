@@ -11,7 +11,7 @@ use std::io;
 // `time_lookups`, `time_defining`, `time_linking` or a function of its own that `time_round` calls (of a graph:
 // `graph_rounds::time_round`). The table needs nothing: a metric has its line, in its place, from its first figure on.
 
-/// The figures of one metric, one for each round.
+// The figures of one metric, one for each round.
 #[derive(Drop)]
 struct Row {
     metric: Metric,
@@ -25,7 +25,7 @@ pub struct Table {
     rows: Vec<Row>,
 }
 
-/// Prints a line: the name, the metric, its unit, and the median, the least and the greatest figure.
+// Prints a line: the name, the metric, its unit, and the median, the least and the greatest figure.
 fn print_line(rt: &impl Print, name: &str, metric: Metric, summary: &Summary) -> io::Result<()> {
     let words = metric.words();
     let unit = metric.unit().word();
@@ -50,7 +50,7 @@ fn print_line(rt: &impl Print, name: &str, metric: Metric, summary: &Summary) ->
 }
 
 impl Row {
-    /// Prints the row, if it has a figure.
+    // Prints the row, if it has a figure.
     fn print(&mut self, rt: &impl Print, name: &str) -> io::Result<()> {
         if self.figures.is_empty() {
             return Ok(());
@@ -69,7 +69,7 @@ impl Table {
         }
     }
 
-    /// The place of the metric's row, which is made where there is none.
+    // The place of the metric's row, which is made where there is none.
     fn place(&mut self, metric: Metric) -> Result<usize, NoMemory>
         ensures { IfOk result (λ place. place < length self.new.rows.items) }
     {

@@ -13,23 +13,23 @@ use dt_scratch::resolve;
 use std::alloc::Global;
 use std::io;
 
-/// How many calls are made.
+// How many calls are made.
 const CALLS: u32 = 1000;
 
-/// What a generated program comes to, with nothing timed.
+// What a generated program comes to, with nothing timed.
 #[derive(Clone, Copy, Debug, PartialEq, Eq)]
 struct Counts {
-    /// The definitions.
+    // The definitions.
     definitions: u32,
-    /// How many of the edits that are drawn are accepted.
+    // How many of the edits that are drawn are accepted.
     edits: usize,
-    /// How many of the calls a method answers.
+    // How many of the calls a method answers.
     hits: u32,
-    /// What the replies to the calls come to.
+    // What the replies to the calls come to.
     mix: u32,
 }
 
-/// Makes calls of the program: how many of them a method answers, and the mix of their replies.
+// Makes calls of the program: how many of them a method answers, and the mix of their replies.
 fn call(program: &Program, draws: &mut Draws, size: Size) -> (u32, Mix) {
     let mut hits: u32 = 0;
     let mut mix = Mix::new();
@@ -43,7 +43,7 @@ fn call(program: &Program, draws: &mut Draws, size: Size) -> (u32, Mix) {
     (hits, mix)
 }
 
-/// Counts what a loaded program comes to.
+// Counts what a loaded program comes to.
 fn count_loaded(
     alloc: Global,
     draws: &mut Draws,
@@ -61,7 +61,7 @@ fn count_loaded(
     })
 }
 
-/// Counts what the program of these batches comes to.
+// Counts what the program of these batches comes to.
 fn count_batches(
     alloc: Global,
     draws: &mut Draws,
@@ -72,14 +72,14 @@ fn count_batches(
     count_loaded(alloc, draws, size, batches, &mut program)
 }
 
-/// Counts what the generated program of this number and size comes to.
+// Counts what the generated program of this number and size comes to.
 fn count(alloc: Global, number: u64, size: Size) -> Result<Counts, NoMemory> {
     let mut draws = Draws::new(number);
     let batches = draw_program(alloc, &mut draws, size)?;
     count_batches(alloc, &mut draws, size, &batches)
 }
 
-/// Prints the first draws from 1, and how figures are written.
+// Prints the first draws from 1, and how figures are written.
 fn print_draws(rt: &impl Print) -> io::Result<()> {
     let mut draws = Draws::new(1);
     let (first, second, third) = (draws.draw(100), draws.draw(4), draws.draw(4096));
@@ -90,7 +90,7 @@ fn print_draws(rt: &impl Print) -> io::Result<()> {
     println!(rt; "figures | {zero} {small} {large}")
 }
 
-/// Prints what a tiny program comes to.
+// Prints what a tiny program comes to.
 fn print_program<R: Print + AllocGlobal>(rt: &R, number: u64, size: Size) -> Result<(), Fault> {
     let Counts {
         definitions,
@@ -109,8 +109,8 @@ fn print_program<R: Print + AllocGlobal>(rt: &R, number: u64, size: Size) -> Res
     Ok(())
 }
 
-/// Prints what a small graph comes to: how many classes are at or below the one in the middle, and whether its link in
-/// the middle is there.
+// Prints what a small graph comes to: how many classes are at or below the one in the middle, and whether its link in
+// the middle is there.
 fn print_graph<R: Print + AllocGlobal>(rt: &R, shape: Shape) -> Result<(), Fault> {
     let graph = shape.graph(rt.alloc(), 100)?;
     let Some((class, parent)) = shape.middle_link(100) else {
@@ -122,7 +122,7 @@ fn print_graph<R: Print + AllocGlobal>(rt: &R, shape: Shape) -> Result<(), Fault
     Ok(())
 }
 
-/// Prints the programs of this number and size, where they are in range.
+// Prints the programs of this number and size, where they are in range.
 fn print_programs<R: Print + AllocGlobal>(rt: &R) -> Result<(), Fault> {
     for (number, classes, selectors) in [(1, 20, 10), (7, 60, 120)] {
         if let Some(size) = Size::new(classes, selectors) {

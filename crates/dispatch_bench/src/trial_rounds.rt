@@ -11,7 +11,7 @@ use dt_definitions::{Batch, BatchFault, NoMemory, TwoPrograms};
 use std::alloc::Global;
 use std::rt::Clock;
 
-/// Tries the batch. Where it is refused nothing is tried.
+// Tries the batch. Where it is refused nothing is tried.
 fn try_batch(two: &mut TwoPrograms, batch: Batch) -> Result<(), NoMemory> {
     two.refuse();
     match two.try_batch(batch) {
@@ -20,7 +20,7 @@ fn try_batch(two: &mut TwoPrograms, batch: Batch) -> Result<(), NoMemory> {
     }
 }
 
-/// The two programs of this number and size.
+// The two programs of this number and size.
 fn load_two(alloc: Global, number: u64, size: Size) -> Result<TwoPrograms, NoMemory> {
     let batches = draw_program(alloc, &mut Draws::new(number), size)?;
     let mut two = TwoPrograms::new(alloc)?;
@@ -31,7 +31,7 @@ fn load_two(alloc: Global, number: u64, size: Size) -> Result<TwoPrograms, NoMem
     Ok(two)
 }
 
-/// Times a batch of 500 other bodies that is tried and then refused, so that the program is as it was.
+// Times a batch of 500 other bodies that is tried and then refused, so that the program is as it was.
 fn time_tried<R: Clock + AllocGlobal>(
     rt: &R,
     table: &mut Table,

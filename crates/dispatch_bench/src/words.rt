@@ -16,7 +16,7 @@ pub enum Command {
     Selector { definitions: u16 },
 }
 
-/// The number that the word is in decimal digits.
+// The number that the word is in decimal digits.
 fn number(word: &str) -> Option<u64> {
     if word.as_bytes().first() == Some(&b'+') {
         return None;
@@ -24,12 +24,12 @@ fn number(word: &str) -> Option<u64> {
     word.parse::<u64>().ok()
 }
 
-/// The number that the word is, where 16 bits hold it.
+// The number that the word is, where 16 bits hold it.
 fn small(word: &str) -> Option<u16> {
     u16::try_from(number(word)?).ok()
 }
 
-/// The shape of this word.
+// The shape of this word.
 fn shape_of(word: &str) -> Option<Shape> {
     for shape in [Shape::Chain, Shape::Star, Shape::Diamonds] {
         if word == shape.word() {

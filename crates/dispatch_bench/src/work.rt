@@ -3,7 +3,7 @@ use dt_definitions::{ApplyFault, Batch, BatchFault, ClassGraph, ClassNo, Edit, N
 use dt_scratch::{Query, resolve};
 use std::alloc::Global;
 
-/// Applies a batch. Where it is refused the program is as it was.
+// Applies a batch. Where it is refused the program is as it was.
 fn step_batch(program: &mut Program, batch: &Batch) -> Result<(), NoMemory> {
     match program.apply_batch(batch) {
         Ok(()) => Ok(()),

@@ -9,7 +9,7 @@ use std::env::Args;
 use std::io;
 use std::io::ErrorKind;
 
-/// The words of these arguments: all but the first, which is the program's name.
+// The words of these arguments: all but the first, which is the program's name.
 fn words_after_name(alloc: Global, mut args: Args) -> Result<ArgWords, NoMemory>
     ensures { IfOk result (λ words. words ≡ drop 1 (map string_bytes (into_iter_items args))) }
 {

@@ -4,13 +4,13 @@ ghost use Rattle.dt_cells.specs.Cell.{cell_word, answer_of_code, answer_of_word}
 use dt_scratch::Answer;
 use dt_selectors::BodyNo;
 
-/// By how many bits a tag stands above the code.
+// By how many bits a tag stands above the code.
 const TAG: u32 = 32;
 
-/// The code of an ambiguous answer.
+// The code of an ambiguous answer.
 const AMBIGUOUS: u64 = 1;
 
-/// The code of the body with number 0.
+// The code of the body with number 0.
 const FIRST_BODY: u64 = 2;
 
 /// The word of a cell that answers so under this tag, or 0 for what isn't understood.
@@ -25,7 +25,7 @@ pub fn word_of_answer(tag: u32, answer: Answer) -> u64
     }
 }
 
-/// The answer of a code. A code that stands for nothing is not understood.
+// The answer of a code. A code that stands for nothing is not understood.
 fn answer_by_code(code: u64) -> Answer
     ensures { result ≡ answer_of_code code }
 {

@@ -11,7 +11,7 @@ use dt_pages::Words;
 use dt_scratch::{Query, Reply};
 use dt_selectors::SELECTORS;
 
-/// How many arguments the selector takes by its word; `None` where it isn't live by it.
+// How many arguments the selector takes by its word; `None` where it isn't live by it.
 fn read_arity<W: Words>(words: &mut W, selector: u16) -> Option<u64>
     ensures value { result ≡ arity_read (look_up (W.image words.old)) selector }
     ensures image { W.image words.new ≡ W.image words.old }
@@ -25,7 +25,7 @@ fn read_arity<W: Words>(words: &mut W, selector: u16) -> Option<u64>
     if word == 0 { None } else { Some(word) }
 }
 
-/// Whether the class is live by its word.
+// Whether the class is live by its word.
 fn read_class<W: Words>(words: &mut W, class: u16) -> bool
     ensures value { result ≡ is_class_read (look_up (W.image words.old)) class }
     ensures image { W.image words.new ≡ W.image words.old }
@@ -38,7 +38,7 @@ fn read_class<W: Words>(words: &mut W, class: u16) -> bool
     words.word(u32::from(class)) != 0
 }
 
-/// The first place, from 1, whose class isn't live by its word.
+// The first place, from 1, whose class isn't live by its word.
 fn read_classes<W: Words>(words: &mut W, classes: &[u16]) -> Option<u8>
     requires { length classes.now ≤ 4 }
     ensures value { result ≡ first_unread (look_up (W.image words.old)) 1 classes.now }
@@ -55,7 +55,7 @@ fn read_classes<W: Words>(words: &mut W, classes: &[u16]) -> Option<u8>
     None
 }
 
-/// The head of a look-up: the reply by the selector word and the class words, if it isn't an answer.
+// The head of a look-up: the reply by the selector word and the class words, if it isn't an answer.
 pub(crate) fn read_head<W: Words>(words: &mut W, query: &Query) -> Option<Reply>
     ensures value { result ≡ head_of (look_up (W.image words.old)) query.now }
     ensures range { IsNone result → IsInRange query.now }

@@ -10,14 +10,14 @@ use dt_graph::{CLASSES, ClassNo, NoMemory};
 use dt_pages::Draft;
 use dt_selectors::{SELECTORS, SelNo};
 
-/// A class's word.
+// A class's word.
 fn word_of_class(program: &Program, class: ClassNo) -> u64
     ensures { result ≡ class_word program.now class }
 {
     u64::from(program.is_live(class))
 }
 
-/// A selector's word.
+// A selector's word.
 fn word_of_selector(program: &Program, selector: SelNo) -> u64
     ensures { result ≡ selector_word program.now selector }
 {
@@ -26,7 +26,7 @@ fn word_of_selector(program: &Program, selector: SelNo) -> u64
         .map_or(0, |arity| u64::from(arity.number()))
 }
 
-/// Sets the word at the address, where it is another than before.
+// Sets the word at the address, where it is another than before.
 fn set_other(draft: &mut Draft, at: u32, before: u64, now: u64) -> Result<(), NoMemory>
     requires { at < 2 ^ 27 }
     ensures { OnOk result ((base : Reading) (address : ℕ) → laid_over draft.new base address
@@ -39,7 +39,7 @@ fn set_other(draft: &mut Draft, at: u32, before: u64, now: u64) -> Result<(), No
     }
 }
 
-/// Sets the word of the class of this number, where the two programs have different ones.
+// Sets the word of the class of this number, where the two programs have different ones.
 fn class_head(draft: &mut Draft, old: &Program, new: &Program, number: u16) -> Result<(), NoMemory>
     requires { number < 2048 }
     ensures { OnOk result ((base : Reading) (address : ℕ) → laid_over draft.new base address
@@ -56,7 +56,7 @@ fn class_head(draft: &mut Draft, old: &Program, new: &Program, number: u16) -> R
     }
 }
 
-/// Sets the word of the selector of this number, where the two programs have different ones.
+// Sets the word of the selector of this number, where the two programs have different ones.
 fn selector_head(
     draft: &mut Draft,
     old: &Program,
@@ -78,7 +78,7 @@ fn selector_head(
     }
 }
 
-/// Sets the class words in which the two programs differ.
+// Sets the class words in which the two programs differ.
 fn class_heads(draft: &mut Draft, old: &Program, new: &Program) -> Result<(), NoMemory>
     ensures { OnOk result ((base : Reading) (address : ℕ) → laid_over draft.new base address
         ≡ (if nat_lt address 2048 then with_heads old.now new.now (laid_over draft.old base) address else laid_over draft.old base address)) }
@@ -89,7 +89,7 @@ fn class_heads(draft: &mut Draft, old: &Program, new: &Program) -> Result<(), No
     Ok(())
 }
 
-/// Sets the selector words in which the two programs differ.
+// Sets the selector words in which the two programs differ.
 fn selector_heads(draft: &mut Draft, old: &Program, new: &Program) -> Result<(), NoMemory>
     ensures { OnOk result ((base : Reading) (address : ℕ) → laid_over draft.new base address
         ≡ (if nat_le 4096 address && nat_lt address 8192 then with_heads old.now new.now (laid_over draft.old base) address else laid_over draft.old base address)) }

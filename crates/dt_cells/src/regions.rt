@@ -1,10 +1,10 @@
 ghost use Rattle.std.specs.Prelude.{◌≡◌, ◌<◌};
 ghost use Rattle.dt_cells.specs.Regions.{selector_at, place_of};
 
-/// The selector words begin here.
+// The selector words begin here.
 const SELECTOR_WORDS: u32 = 4096;
 
-/// The place words begin here.
+// The place words begin here.
 const PLACE_WORDS: u32 = 8192;
 
 /// The address of a selector's word.

@@ -16,7 +16,7 @@ use dt_selectors::{BodyNo, SELECTORS, SelNo};
 use std::alloc::Global;
 use std::marker::Model;
 
-/// The definitions of a program, each in the row of its selector.
+// The definitions of a program, each in the row of its selector.
 #[derive(Debug, Drop)]
 pub(crate) struct AllDefinitions {
     rows: Vec<SelectorDefinitions>,
@@ -34,7 +34,7 @@ impl Model for AllDefinitions {
     ghost invariant = { λ t. DefinitionsKept t.rows.items t.count t.index };
 }
 
-/// A row for each selector, none with a definition.
+// A row for each selector, none with a definition.
 fn empty_lists(alloc: Global) -> Result<Vec<SelectorDefinitions>, NoMemory>
     ensures { IfOk result (λ rows. (length rows.items ≡ SELECTORS) × NoneDefined rows.items) }
 {
@@ -45,7 +45,7 @@ fn empty_lists(alloc: Global) -> Result<Vec<SelectorDefinitions>, NoMemory>
     Ok(rows)
 }
 
-/// Puts the definition into the row of its selector; answers whether it was new.
+// Puts the definition into the row of its selector; answers whether it was new.
 fn put_in(
     rows: &mut Vec<SelectorDefinitions>,
     selector: SelNo,
@@ -64,7 +64,7 @@ fn put_in(
     rows[selector.number() as usize].put(classes, body)
 }
 
-/// Takes the definition out of the row of its selector; answers whether it was there.
+// Takes the definition out of the row of its selector; answers whether it was there.
 fn remove_from(rows: &mut Vec<SelectorDefinitions>, selector: SelNo, classes: &[ClassNo]) -> bool
     requires { length rows.old.items ≡ SELECTORS }
     ensures after { definitions_from 0 rows.new.items
@@ -77,7 +77,7 @@ fn remove_from(rows: &mut Vec<SelectorDefinitions>, selector: SelNo, classes: &[
     rows[selector.number() as usize].remove(classes)
 }
 
-/// Gives back what the list of the selector doesn't use.
+// Gives back what the list of the selector doesn't use.
 fn give_back_in(rows: &mut Vec<SelectorDefinitions>, selector: SelNo)
     requires { length rows.old.items ≡ SELECTORS }
     ensures all_selectors { length rows.new.items ≡ SELECTORS }
@@ -86,7 +86,7 @@ fn give_back_in(rows: &mut Vec<SelectorDefinitions>, selector: SelNo)
     rows[selector.number() as usize].give_back();
 }
 
-/// Equal lists.
+// Equal lists.
 fn copy_lists(rows: &Vec<SelectorDefinitions>) -> Result<Vec<SelectorDefinitions>, NoMemory>
     ensures { IfOk result (λ copy. HaveSameDefinitions rows.now.items copy.items) }
 {
@@ -99,7 +99,7 @@ fn copy_lists(rows: &Vec<SelectorDefinitions>) -> Result<Vec<SelectorDefinitions
 }
 
 impl AllDefinitions {
-    /// A table with no definition.
+    // A table with no definition.
     pub(crate) fn new(alloc: Global) -> Result<AllDefinitions, NoMemory>
         ensures { IfOk result (λ table. table.all ≡ []) }
     {
@@ -112,56 +112,56 @@ impl AllDefinitions {
         })
     }
 
-    /// How many definitions there are.
+    // How many definitions there are.
     pub(crate) fn len(&self) -> u32
         ensures { result ≡ length self.now.all }
     {
         self.count
     }
 
-    /// The selector's definitions.
+    // The selector's definitions.
     pub(crate) fn of(&self, selector: SelNo) -> &[Defined]
         ensures { with_selector selector result.now ≡ filter (λ d. d.selector == selector) self.now.all }
     {
         self.rows[selector.number() as usize].as_slice()
     }
 
-    /// Whether the selector has a definition.
+    // Whether the selector has a definition.
     pub(crate) fn is_defined(&self, selector: SelNo) -> bool
         ensures { result ≡ list_any (λ d. d.selector == selector) self.now.all }
     {
         !self.of(selector).is_empty()
     }
 
-    /// Where the definitions that name the class stand, in ascending order.
+    // Where the definitions that name the class stand, in ascending order.
     pub(crate) fn naming(&self, class: ClassNo) -> &[DefinitionKey]
         ensures { result.now ≡ naming self.now.all class }
     {
         self.index.of(class)
     }
 
-    /// Whether a definition names the class.
+    // Whether a definition names the class.
     pub(crate) fn names(&self, class: ClassNo) -> bool
         ensures { result ≡ list_any (λ d. has_number d.classes class) self.now.all }
     {
         !self.naming(class).is_empty()
     }
 
-    /// The body of the selector at these classes; `None` exactly where they aren't defined.
+    // The body of the selector at these classes; `None` exactly where they aren't defined.
     pub(crate) fn body(&self, selector: SelNo, classes: &[ClassNo]) -> Option<BodyNo>
         ensures { result ≡ body_of self.now.all selector classes.now }
     {
         self.rows[selector.number() as usize].body(classes)
     }
 
-    /// Whether the selector is defined at these classes.
+    // Whether the selector is defined at these classes.
     pub(crate) fn has(&self, selector: SelNo, classes: &[ClassNo]) -> bool
         ensures { result ≡ list_any (is_definition selector classes.now) self.now.all }
     {
         self.body(selector, classes).is_some()
     }
 
-    /// Gives the selector this body in place of the one that it has at these classes.
+    // Gives the selector this body in place of the one that it has at these classes.
     fn put_again(&mut self, selector: SelNo, classes: Tuple, body: BodyNo) -> Result<(), NoMemory>
         requires { IsTrue (list_any (is_definition selector classes) self.old.all) }
         ensures ok { OnOk result (self.new.all
@@ -174,7 +174,7 @@ impl AllDefinitions {
         Ok(())
     }
 
-    /// Gives the selector this body at these classes, where it has none.
+    // Gives the selector this body at these classes, where it has none.
     fn put_new(&mut self, selector: SelNo, classes: Tuple, body: BodyNo) -> Result<(), NoMemory>
         requires absent { list_any (is_definition selector classes) self.old.all ≡ false }
         requires few { length self.old.all ≤ DEFINITIONS }
@@ -192,7 +192,7 @@ impl AllDefinitions {
         Ok(())
     }
 
-    /// Gives the selector this body at these classes, in place of one that it has there.
+    // Gives the selector this body at these classes, in place of one that it has there.
     pub(crate) fn put(
         &mut self,
         selector: SelNo,
@@ -213,7 +213,7 @@ impl AllDefinitions {
         }
     }
 
-    /// Takes the selector's definition at these classes away, if it is there.
+    // Takes the selector's definition at these classes away, if it is there.
     pub(crate) fn remove(&mut self, selector: SelNo, classes: &[ClassNo])
         ensures after { self.new.all ≡ filter (λ d. not (is_definition selector classes.now d)) self.old.all }
         ensures room_stays { RoomStays self.old.rooms self.new.rooms }
@@ -226,7 +226,7 @@ impl AllDefinitions {
         }
     }
 
-    /// Gives back what the lists of the selector and of these classes don't use.
+    // Gives back what the lists of the selector and of these classes don't use.
     pub(crate) fn give_back(&mut self, selector: SelNo, classes: &[ClassNo])
         ensures { self.new.all ≡ self.old.all }
     {
@@ -234,7 +234,7 @@ impl AllDefinitions {
         self.index.give_back(classes);
     }
 
-    /// Equal definitions.
+    // Equal definitions.
     pub(crate) fn copy(&self) -> Result<AllDefinitions, NoMemory>
         ensures { IfOk result (λ table. table.all ≡ self.now.all) }
     {

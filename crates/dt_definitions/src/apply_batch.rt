@@ -12,7 +12,7 @@ use crate::parts::Parts;
 use crate::why::BatchFault;
 
 impl Parts {
-    /// The one edit of a batch.
+    // The one edit of a batch.
     fn apply_alone(&mut self, edit: &Edit) -> Result<(), BatchFault>
         requires { Lawful (program_of self.old) }
         ensures applies { AppliesBatch (program_of self.old) (edit.now ∷ []) (program_of self.new) result }
@@ -25,7 +25,7 @@ impl Parts {
         }
     }
 
-    /// All edits in order, with what undoes them, or none where one is refused or memory is wanting.
+    // All edits in order, with what undoes them, or none where one is refused or memory is wanting.
     pub(crate) fn apply_kept(&mut self, batch: &Batch) -> Result<Vec<Kept>, BatchFault>
         requires { Lawful (program_of self.old) }
         ensures ok { IfOk result (λ kept. (step_batch (program_of self.old) batch.now ≡ Ok (program_of self.new))
@@ -51,8 +51,8 @@ impl Parts {
         Ok(kept)
     }
 
-    /// The edits of the batch in order, or none where one is refused or memory is wanting. Only where there are
-    /// several can one have to be undone.
+    // The edits of the batch in order, or none where one is refused or memory is wanting. Only where there are
+    // several can one have to be undone.
     pub(crate) fn apply_batch(&mut self, batch: &Batch) -> Result<(), BatchFault>
         requires { Lawful (program_of self.old) }
         ensures applies { AppliesBatch (program_of self.old) batch.now (program_of self.new) result }
@@ -69,8 +69,8 @@ impl Parts {
         }
     }
 
-    /// Gives back the memory that the lists which the edit touched leave unused. It comes where no undo is wanted any
-    /// more, since undoing needs the room.
+    // Gives back the memory that the lists which the edit touched leave unused. It comes where no undo is wanted any
+    // more, since undoing needs the room.
     pub(crate) fn give_back(&mut self, edit: &Edit)
         ensures { program_of self.new ≡ program_of self.old }
     {
@@ -87,7 +87,7 @@ impl Parts {
         }
     }
 
-    /// The same for all edits of the batch.
+    // The same for all edits of the batch.
     pub(crate) fn give_back_all(&mut self, batch: &Batch)
         ensures { program_of self.new ≡ program_of self.old }
     {

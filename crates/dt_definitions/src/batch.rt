@@ -82,7 +82,7 @@ impl Batch {
         }
     }
 
-    /// The edits.
+    // The edits.
     pub(crate) fn as_slice(&self) -> &[Edit]
         ensures value { result.now ≡ self.now }
         ensures in_range { length result.now ≤ 2 ^ 31 }
@@ -90,7 +90,7 @@ impl Batch {
         &self.edits
     }
 
-    /// The allocator.
+    // The allocator.
     pub(crate) fn allocator(&self) -> Global {
         *self.edits.allocator()
     }

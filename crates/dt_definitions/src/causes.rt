@@ -12,7 +12,7 @@ use dt_graph::ClassNo;
 use dt_selectors::SelNo;
 
 impl Parts {
-    /// Why a class that a definition names isn't dropped.
+    // Why a class that a definition names isn't dropped.
     pub(crate) fn cause_to_keep(&self, class: ClassNo) -> Why
         requires { IsTrue (is_named (program_of self.now) class) }
         ensures { refusal (program_of self.now) (Edit.DropClass class) ≡ Some result }
@@ -23,7 +23,7 @@ impl Parts {
         }
     }
 
-    /// Why the selector isn't dropped.
+    // Why the selector isn't dropped.
     pub(crate) fn drop_selector_cause(&self, selector: SelNo) -> Option<Why>
         ensures { result ≡ refusal (program_of self.now) (Edit.DropSelector selector) }
     {
@@ -36,7 +36,7 @@ impl Parts {
         None
     }
 
-    /// The first of the classes that isn't live.
+    // The first of the classes that isn't live.
     fn first_unknown(&self, classes: &[ClassNo]) -> Option<ClassNo>
         ensures { result ≡ find (λ class. not (is_live self.now.graph class)) classes.now }
     {
@@ -46,7 +46,7 @@ impl Parts {
             .find(|class| !self.graph.is_live(*class))
     }
 
-    /// Why the selector has no place for these classes, whether it is defined there or not.
+    // Why the selector has no place for these classes, whether it is defined there or not.
     fn place_cause(&self, selector: SelNo, classes: &[ClassNo]) -> Option<Why>
         ensures { result ≡ first_cause (place_causes (program_of self.now) selector classes.now) }
     {
@@ -62,7 +62,7 @@ impl Parts {
         None
     }
 
-    /// Why the selector can't be defined at these classes.
+    // Why the selector can't be defined at these classes.
     pub(crate) fn define_cause(&self, selector: SelNo, classes: &[ClassNo]) -> Option<Why>
         ensures { (body : ℕ) → result ≡ refusal (program_of self.now) (Edit.Define selector classes.now body) }
     {
@@ -75,7 +75,7 @@ impl Parts {
         None
     }
 
-    /// Why the selector doesn't lose a definition at these classes.
+    // Why the selector doesn't lose a definition at these classes.
     pub(crate) fn undefine_cause(&self, selector: SelNo, classes: &[ClassNo]) -> Option<Why>
         ensures { result ≡ refusal (program_of self.now) (Edit.Undefine selector classes.now) }
     {

@@ -3,7 +3,7 @@ ghost use Rattle.dt_definitions.specs.Program.{same_classes, are_classes_before}
 
 use dt_graph::ClassNo;
 
-/// Whether the first classes stand before the second: by the first place that differs.
+// Whether the first classes stand before the second: by the first place that differs.
 pub(crate) fn is_before(first: &[ClassNo], second: &[ClassNo]) -> bool
     ensures { result ≡ are_classes_before first.now second.now }
 {
@@ -15,7 +15,7 @@ pub(crate) fn is_before(first: &[ClassNo], second: &[ClassNo]) -> bool
     }
 }
 
-/// Whether the two are the same.
+// Whether the two are the same.
 pub(crate) fn is_same(first: &[ClassNo], second: &[ClassNo]) -> bool
     ensures { result ≡ same_classes first.now second.now }
 {

@@ -66,7 +66,7 @@ pub enum Edit {
 }
 
 impl Edit {
-    /// An equal edit.
+    // An equal edit.
     pub(crate) fn copy(&self) -> Result<Edit, NoMemory>
         ensures { IfOk result (λ edit. edit ≡ self.now) }
     {

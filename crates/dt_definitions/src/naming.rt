@@ -11,7 +11,7 @@ use dt_selectors::SelNo;
 use std::alloc::Global;
 use std::marker::Model;
 
-/// Where the definitions that name one class stand, in ascending order.
+// Where the definitions that name one class stand, in ascending order.
 #[derive(Debug, Drop)]
 pub(crate) struct Naming {
     keys: Vec<DefinitionKey>,
@@ -28,7 +28,7 @@ impl Model for Naming {
     ghost invariant = { λ n. KeysAscend n.keys.items };
 }
 
-/// Whether the key stands before the selector at these classes.
+// Whether the key stands before the selector at these classes.
 fn is_key_before(key: &DefinitionKey, selector: SelNo, classes: &[ClassNo]) -> bool
     ensures { result ≡ is_key_before key.now (record { selector = selector; classes = classes.now }) }
 {
@@ -36,14 +36,14 @@ fn is_key_before(key: &DefinitionKey, selector: SelNo, classes: &[ClassNo]) -> b
         || (key.selector == selector && is_before(key.classes.classes(), classes))
 }
 
-/// Whether the key is the selector at these classes.
+// Whether the key is the selector at these classes.
 fn is_key_of(key: &DefinitionKey, selector: SelNo, classes: &[ClassNo]) -> bool
     ensures { result ≡ is_same_key (record { selector = selector; classes = classes.now }) key.now }
 {
     key.selector == selector && is_same(key.classes.classes(), classes)
 }
 
-/// The first place from 0 whose key doesn't stand before the selector at these classes.
+// The first place from 0 whose key doesn't stand before the selector at these classes.
 fn key_place(keys: &[DefinitionKey], selector: SelNo, classes: &[ClassNo]) -> usize
     requires { KeysAscend keys.now }
     ensures { result ≡ first_place itself is_key_before (record { selector = selector; classes = classes.now }) keys.now }
@@ -61,7 +61,7 @@ fn key_place(keys: &[DefinitionKey], selector: SelNo, classes: &[ClassNo]) -> us
     low
 }
 
-/// The place of the selector at these classes, or else the place at which it would stand.
+// The place of the selector at these classes, or else the place at which it would stand.
 fn search_keys(keys: &[DefinitionKey], selector: SelNo, classes: &[ClassNo]) -> Result<usize, usize>
     requires { KeysAscend keys.now }
     ensures { KeySearched keys.now (record { selector = selector; classes = classes.now }) result }
@@ -78,7 +78,7 @@ fn search_keys(keys: &[DefinitionKey], selector: SelNo, classes: &[ClassNo]) -> 
 }
 
 impl Naming {
-    /// No definition. It takes no memory.
+    // No definition. It takes no memory.
     pub(crate) fn new(alloc: Global) -> Naming
         ensures { result.keys ≡ [] }
     {
@@ -87,14 +87,14 @@ impl Naming {
         }
     }
 
-    /// The keys.
+    // The keys.
     pub(crate) fn as_slice(&self) -> &[DefinitionKey]
         ensures { result.now ≡ self.now.keys }
     {
         &self.keys
     }
 
-    /// Takes the room for one more.
+    // Takes the room for one more.
     pub(crate) fn reserve(&mut self) -> Result<(), NoMemory>
         ensures keys { self.new.keys ≡ self.old.keys }
         ensures room_stays { self.old.room ≤ self.new.room }
@@ -104,7 +104,7 @@ impl Naming {
         Ok(self.keys.reserve(1)?)
     }
 
-    /// Puts the key into its place. There is room.
+    // Puts the key into its place. There is room.
     pub(crate) fn insert(&mut self, key: &DefinitionKey)
         requires { length self.old.keys < self.old.room }
         ensures keys { self.new.keys ≡ place_key key.now self.old.keys }
@@ -120,7 +120,7 @@ impl Naming {
         }
     }
 
-    /// Takes the selector at these classes away, if it is there.
+    // Takes the selector at these classes away, if it is there.
     pub(crate) fn remove(&mut self, selector: SelNo, classes: &[ClassNo])
         ensures keys { self.new.keys ≡ without_key (record { selector = selector; classes = classes.now }) self.old.keys }
         ensures room_stays { self.old.room ≤ self.new.room }
@@ -135,7 +135,7 @@ impl Naming {
         }
     }
 
-    /// Gives memory back where less than a quarter of the room is used.
+    // Gives memory back where less than a quarter of the room is used.
     pub(crate) fn give_back(&mut self)
         ensures { self.new.keys ≡ self.old.keys }
     {
@@ -145,7 +145,7 @@ impl Naming {
         }
     }
 
-    /// Equal keys.
+    // Equal keys.
     pub(crate) fn copy(&self) -> Result<Naming, NoMemory>
         ensures { IfOk result (λ naming. naming.keys ≡ self.now.keys) }
     {

@@ -9,7 +9,7 @@ use dt_selectors::SelNo;
 use std::alloc::Global;
 use std::marker::Model;
 
-/// For each class, where the definitions that name it stand.
+// For each class, where the definitions that name it stand.
 #[derive(Debug, Drop)]
 pub(crate) struct NamingIndex {
     lists: Vec<Naming>,
@@ -27,7 +27,7 @@ impl Model for NamingIndex {
     ghost invariant = { λ i. length i.lists.items ≡ CLASSES };
 }
 
-/// A list for each class, none with a definition.
+// A list for each class, none with a definition.
 fn empty_lists(alloc: Global) -> Result<Vec<Naming>, NoMemory>
     ensures { IfOk result (λ lists. (length lists.items ≡ CLASSES) × ((class : ℕ) → keys_at lists.items class ≡ [])) }
 {
@@ -38,7 +38,7 @@ fn empty_lists(alloc: Global) -> Result<Vec<Naming>, NoMemory>
     Ok(lists)
 }
 
-/// Takes the room for one more in the lists of these classes.
+// Takes the room for one more in the lists of these classes.
 fn reserve_in(lists: &mut Vec<Naming>, classes: &[ClassNo]) -> Result<(), NoMemory>
     requires { length lists.old.items ≡ CLASSES }
     ensures all_classes { length lists.new.items ≡ CLASSES }
@@ -53,7 +53,7 @@ fn reserve_in(lists: &mut Vec<Naming>, classes: &[ClassNo]) -> Result<(), NoMemo
     Ok(())
 }
 
-/// Puts the key into the list of each class that it names, once, however often the class stands there.
+// Puts the key into the list of each class that it names, once, however often the class stands there.
 fn insert_in(lists: &mut Vec<Naming>, key: &DefinitionKey)
     requires all_classes { length lists.old.items ≡ CLASSES }
     requires room { HasRoomIn lists.old.items key.now.classes }
@@ -70,7 +70,7 @@ fn insert_in(lists: &mut Vec<Naming>, key: &DefinitionKey)
     }
 }
 
-/// Takes the selector at these classes out of the list of each of them.
+// Takes the selector at these classes out of the list of each of them.
 fn remove_in(lists: &mut Vec<Naming>, selector: SelNo, classes: &[ClassNo])
     requires { length lists.old.items ≡ CLASSES }
     ensures all_classes { length lists.new.items ≡ CLASSES }
@@ -88,7 +88,7 @@ fn remove_in(lists: &mut Vec<Naming>, selector: SelNo, classes: &[ClassNo])
     }
 }
 
-/// Gives back what the lists of these classes don't use.
+// Gives back what the lists of these classes don't use.
 fn give_back_in(lists: &mut Vec<Naming>, classes: &[ClassNo])
     requires { length lists.old.items ≡ CLASSES }
     ensures all_classes { length lists.new.items ≡ CLASSES }
@@ -99,7 +99,7 @@ fn give_back_in(lists: &mut Vec<Naming>, classes: &[ClassNo])
     }
 }
 
-/// Equal lists.
+// Equal lists.
 fn copy_lists(lists: &Vec<Naming>) -> Result<Vec<Naming>, NoMemory>
     ensures same { IfOk result (λ copy. KeysStay lists.now.items copy.items) }
     ensures all_classes { IfOk result (λ copy. length copy.items ≡ length lists.now.items) }
@@ -113,7 +113,7 @@ fn copy_lists(lists: &Vec<Naming>) -> Result<Vec<Naming>, NoMemory>
 }
 
 impl NamingIndex {
-    /// An index with no definition.
+    // An index with no definition.
     pub(crate) fn new(alloc: Global) -> Result<NamingIndex, NoMemory>
         ensures { IfOk result (λ index. (class : ℕ) → keys_at index class ≡ []) }
     {
@@ -121,7 +121,7 @@ impl NamingIndex {
         Ok(NamingIndex { lists })
     }
 
-    /// Where the definitions that name the class stand.
+    // Where the definitions that name the class stand.
     pub(crate) fn of(&self, class: ClassNo) -> &[DefinitionKey]
         ensures value { result.now ≡ keys_at self.now class }
         ensures in_range { class < CLASSES }
@@ -129,7 +129,7 @@ impl NamingIndex {
         self.lists[class.number() as usize].as_slice()
     }
 
-    /// Takes the room for one more in the lists of these classes.
+    // Takes the room for one more in the lists of these classes.
     pub(crate) fn reserve(&mut self, classes: &[ClassNo]) -> Result<(), NoMemory>
         ensures keys { KeysStay self.old self.new }
         ensures room_stays { RoomsGrow self.old self.new }
@@ -139,7 +139,7 @@ impl NamingIndex {
         reserve_in(&mut self.lists, classes)
     }
 
-    /// Puts the key into the list of each class that it names. There is room.
+    // Puts the key into the list of each class that it names. There is room.
     pub(crate) fn insert(&mut self, key: &DefinitionKey)
         requires { HasRoomIn self.old key.now.classes }
         ensures keys { (class : ℕ) → keys_at self.new class
@@ -149,7 +149,7 @@ impl NamingIndex {
         insert_in(&mut self.lists, key);
     }
 
-    /// Takes the selector at these classes out of the list of each of them.
+    // Takes the selector at these classes out of the list of each of them.
     pub(crate) fn remove(&mut self, selector: SelNo, classes: &[ClassNo])
         ensures keys { (class : ℕ) → keys_at self.new class
             ≡ (if has_number classes.now class then without_key (record { selector = selector; classes = classes.now }) (keys_at self.old class)
@@ -160,14 +160,14 @@ impl NamingIndex {
         remove_in(&mut self.lists, selector, classes);
     }
 
-    /// Gives back what the lists of these classes don't use.
+    // Gives back what the lists of these classes don't use.
     pub(crate) fn give_back(&mut self, classes: &[ClassNo])
         ensures { KeysStay self.old self.new }
     {
         give_back_in(&mut self.lists, classes);
     }
 
-    /// An equal index.
+    // An equal index.
     pub(crate) fn copy(&self) -> Result<NamingIndex, NoMemory>
         ensures { IfOk result (λ index. KeysStay self.now index) }
     {

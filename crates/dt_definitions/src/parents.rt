@@ -34,7 +34,7 @@ impl Parents {
         &self.classes
     }
 
-    /// Equal parents.
+    // Equal parents.
     pub(crate) fn copy(&self) -> Result<Parents, NoMemory>
         ensures { IfOk result (λ parents. parents ≡ self.now) }
     {

@@ -15,7 +15,7 @@ use crate::why::ApplyFault;
 use dt_graph::{ClassGraph, ClassNo};
 use dt_selectors::{Arity, BodyNo, SelNo, Selectors};
 
-/// The three parts of a program, and the edits of them.
+// The three parts of a program, and the edits of them.
 #[derive(Debug, Drop)]
 pub(crate) struct Parts {
     pub(crate) graph: ClassGraph,
@@ -24,7 +24,7 @@ pub(crate) struct Parts {
 }
 
 impl Parts {
-    /// The edit, or the first cause for which it is refused.
+    // The edit, or the first cause for which it is refused.
     pub(crate) fn apply(&mut self, edit: &Edit) -> Result<(), ApplyFault>
         requires { Lawful (program_of self.old) }
         ensures applies { Applies (program_of self.old) edit.now (program_of self.new) result }

@@ -195,14 +195,14 @@ impl Program {
         answer
     }
 
-    /// Gives back the memory that the lists which the batch touched leave unused. No undo may be wanted any more.
+    // Gives back the memory that the lists which the batch touched leave unused. No undo may be wanted any more.
     pub(crate) fn give_back(&mut self, batch: &Batch)
         ensures { self.new ≡ self.old }
     {
         self.parts.give_back_all(batch);
     }
 
-    /// As [`Program::apply_batch`], with what undoes it.
+    // As [`Program::apply_batch`], with what undoes it.
     pub(crate) fn apply_kept(&mut self, batch: &Batch) -> Result<Vec<Kept>, BatchFault>
         ensures ok { IfOk result (λ kept. (step_batch self.old batch.now ≡ Ok self.new)
             × LeadsBack self.new (reverse kept.items) self.old) }
@@ -211,8 +211,8 @@ impl Program {
         self.parts.apply_kept(batch)
     }
 
-    /// All that was kept is restored, the last first. It takes memory only where the rows of definitions have less room
-    /// than they had.
+    // All that was kept is restored, the last first. It takes memory only where the rows of definitions have less room
+    // than they had.
     pub(crate) fn undo(&mut self, kept: Vec<Kept>) -> Result<(), NoMemory>
         requires { StaysLawful self.old (reverse kept.items) }
         ensures { OnOk result (self.new ≡ undone self.old (reverse kept.items)) }

@@ -11,7 +11,7 @@ use dt_selectors::BodyNo;
 use std::alloc::Global;
 use std::marker::Model;
 
-/// The definitions of one selector, in ascending order of their classes.
+// The definitions of one selector, in ascending order of their classes.
 #[derive(Debug, Drop)]
 pub(crate) struct SelectorDefinitions {
     defined: Vec<Defined>,
@@ -28,7 +28,7 @@ impl Model for SelectorDefinitions {
     ghost invariant = { λ r. ListAscends r.defined.items };
 }
 
-/// The first place from 0 of the row whose classes don't stand before these.
+// The first place from 0 of the row whose classes don't stand before these.
 fn place_in(row: &[Defined], classes: &[ClassNo]) -> usize
     requires { ListAscends row.now }
     ensures { result ≡ first_place classes_at are_classes_before classes.now row.now }
@@ -46,7 +46,7 @@ fn place_in(row: &[Defined], classes: &[ClassNo]) -> usize
     low
 }
 
-/// The place of the definition at these classes, or else the place at which it would stand.
+// The place of the definition at these classes, or else the place at which it would stand.
 fn search(row: &[Defined], classes: &[ClassNo]) -> Result<usize, usize>
     requires { ListAscends row.now }
     ensures { ListSearched row.now classes.now result }
@@ -63,7 +63,7 @@ fn search(row: &[Defined], classes: &[ClassNo]) -> Result<usize, usize>
 }
 
 impl SelectorDefinitions {
-    /// A row with no definition. It takes no memory.
+    // A row with no definition. It takes no memory.
     pub(crate) fn new(alloc: Global) -> SelectorDefinitions
         ensures { result.defined ≡ [] }
     {
@@ -72,14 +72,14 @@ impl SelectorDefinitions {
         }
     }
 
-    /// The definitions.
+    // The definitions.
     pub(crate) fn as_slice(&self) -> &[Defined]
         ensures { result.now ≡ self.now.defined }
     {
         &self.defined
     }
 
-    /// The body at these classes; `None` exactly where they aren't defined.
+    // The body at these classes; `None` exactly where they aren't defined.
     pub(crate) fn body(&self, classes: &[ClassNo]) -> Option<BodyNo>
         ensures { result ≡ body_in self.now.defined classes.now }
     {
@@ -89,7 +89,7 @@ impl SelectorDefinitions {
         }
     }
 
-    /// Gives the classes this body, in place of one that they have; answers whether they had none.
+    // Gives the classes this body, in place of one that they have; answers whether they had none.
     pub(crate) fn put(&mut self, classes: Tuple, body: BodyNo) -> Result<bool, NoMemory>
         ensures is_new { IfOk result (λ is_new. is_new ≡ is_none (body_in self.old.defined classes)) }
         ensures ok { OnOk result ((selector : ℕ) → with_selector selector self.new.defined
@@ -110,7 +110,7 @@ impl SelectorDefinitions {
         }
     }
 
-    /// Takes the definition at these classes away; answers whether it was there.
+    // Takes the definition at these classes away; answers whether it was there.
     pub(crate) fn remove(&mut self, classes: &[ClassNo]) -> bool
         ensures was_there { result ≡ is_some (body_in self.old.defined classes.now) }
         ensures after { (selector : ℕ) → with_selector selector self.new.defined
@@ -127,7 +127,7 @@ impl SelectorDefinitions {
         }
     }
 
-    /// Gives memory back where less than a quarter of the room is used.
+    // Gives memory back where less than a quarter of the room is used.
     pub(crate) fn give_back(&mut self)
         ensures { self.new.defined ≡ self.old.defined }
     {
@@ -137,7 +137,7 @@ impl SelectorDefinitions {
         }
     }
 
-    /// An equal list.
+    // An equal list.
     pub(crate) fn copy(&self) -> Result<SelectorDefinitions, NoMemory>
         ensures { IfOk result (λ row. row.defined ≡ self.now.defined) }
     {

@@ -12,21 +12,21 @@ use std::alloc::Global;
 use std::marker::Model;
 use std::mem;
 
-/// The program beside the one that stands.
+// The program beside the one that stands.
 #[derive(Debug, Drop)]
 enum Second {
-    /// It is behind the one that stands, by this batch.
+    // It is behind the one that stands, by this batch.
     Behind {
         program: Program,
         batch: Batch,
     },
-    /// It is before the one that stands, by this batch, which is tried; what was kept leads back.
+    // It is before the one that stands, by this batch, which is tried; what was kept leads back.
     Tried {
         program: Program,
         batch: Batch,
         kept: Vec<Kept>,
     },
-    /// There is none. A copy takes its place.
+    // There is none. A copy takes its place.
     Gone,
 }
 
@@ -81,8 +81,8 @@ impl TwoPrograms {
         }
     }
 
-    /// Takes the second program out, equal to the one that stands. [`NoMemory`] where none was found; then both are as
-    /// they were.
+    // Takes the second program out, equal to the one that stands. [`NoMemory`] where none was found; then both are as
+    // they were.
     fn take_second(&mut self) -> Result<Program, NoMemory>
         requires { IsSettledAt self.old.stands self.old }
         ensures second { IfOk result (λ program. program ≡ self.old.stands) }

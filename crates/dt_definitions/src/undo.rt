@@ -14,7 +14,7 @@ use arrayvec::ArrayVec;
 use dt_graph::{ClassNo, NoMemory};
 use dt_selectors::{Arity, BodyNo, SelNo, Selectors};
 
-/// The selector has this arity again, or isn't live again.
+// The selector has this arity again, or isn't live again.
 fn restore_selector(selectors: &mut Selectors, selector: SelNo, arity: Option<Arity>)
     ensures { selectors.new ≡ restore_selector selectors.old selector arity }
 {
@@ -24,7 +24,7 @@ fn restore_selector(selectors: &mut Selectors, selector: SelNo, arity: Option<Ar
     }
 }
 
-/// The selector has this body at these classes again, or isn't defined there again.
+// The selector has this body at these classes again, or isn't defined there again.
 fn restore_definition(
     definitions: &mut AllDefinitions,
     selector: SelNo,
@@ -47,7 +47,7 @@ fn restore_definition(
 }
 
 impl Parts {
-    /// The class as it is.
+    // The class as it is.
     fn class_kept(&self, class: ClassNo) -> Kept
         ensures { result ≡ class_in (program_of self.now) class }
     {
@@ -81,7 +81,7 @@ impl Parts {
         }
     }
 
-    /// What the edit may change, as it is.
+    // What the edit may change, as it is.
     pub(crate) fn kept(&self, edit: &Edit) -> Kept
         ensures { result ≡ kept_of (program_of self.now) edit.now }
     {
@@ -101,7 +101,7 @@ impl Parts {
         }
     }
 
-    /// What was kept is in place of what is there. It succeeds where the definitions have room.
+    // What was kept is in place of what is there. It succeeds where the definitions have room.
     fn restore(&mut self, kept: &Kept) -> Result<(), NoMemory>
         requires was_lawful { Lawful (program_of self.old) }
         requires lawful { Lawful (restored (program_of self.old) kept.now) }
@@ -131,8 +131,8 @@ impl Parts {
         }
     }
 
-    /// All that was kept is restored, the last first. It succeeds where the definitions have room; else the program may
-    /// stand between.
+    // All that was kept is restored, the last first. It succeeds where the definitions have room; else the program may
+    // stand between.
     pub(crate) fn undo(&mut self, mut kept: Vec<Kept>) -> Result<(), NoMemory>
         requires was_lawful { Lawful (program_of self.old) }
         requires lawful { StaysLawful (program_of self.old) (reverse kept.items) }

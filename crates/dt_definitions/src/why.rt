@@ -122,7 +122,7 @@ impl From<NoMemory> for ApplyFault {
 }
 
 impl BatchFault {
-    /// The fault of a batch whose edit at this place has the fault.
+    // The fault of a batch whose edit at this place has the fault.
     pub(crate) fn at(place: u32, fault: ApplyFault) -> BatchFault
         ensures { result ≡ fault_at place fault }
     {

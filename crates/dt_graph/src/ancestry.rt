@@ -11,12 +11,12 @@ use crate::no_memory::NoMemory;
 use std::alloc::Global;
 use std::marker::Model;
 
-/// Which class is at or below which, kept both ways, so that either question is one bit.
+// Which class is at or below which, kept both ways, so that either question is one bit.
 #[derive(Debug, Drop)]
 pub(crate) struct Ancestry {
-    /// For each class the classes at or above it.
+    // For each class the classes at or above it.
     above: Vec<ClassSet>,
-    /// For each class the classes at or below it, and how many they are.
+    // For each class the classes at or below it, and how many they are.
     below: Vec<CountedSet>,
 }
 
@@ -32,7 +32,7 @@ impl Model for Ancestry {
     ghost invariant = { λ a. Mirrored a.above.items a.below.items };
 }
 
-/// For each class the set of it alone.
+// For each class the set of it alone.
 fn each_alone(alloc: Global) -> Result<Vec<ClassSet>, NoMemory>
     ensures count { IfOk result (λ rows. length rows.items ≡ CLASSES) }
     ensures rows { IfOk result (λ rows. (k n : ℕ) → k < CLASSES → n < CLASSES → row_has rows.items k n ≡ (k == n)) }
@@ -46,7 +46,7 @@ fn each_alone(alloc: Global) -> Result<Vec<ClassSet>, NoMemory>
     Ok(rows)
 }
 
-/// Each row that `places` names has these classes too from now on.
+// Each row that `places` names has these classes too from now on.
 fn insert_all_at(rows: &mut [ClassSet], places: &ClassSet, classes: &ClassSet)
     requires { length rows.old ≡ CLASSES }
     ensures count { length rows.new ≡ CLASSES }
@@ -61,7 +61,7 @@ fn insert_all_at(rows: &mut [ClassSet], places: &ClassSet, classes: &ClassSet)
     }
 }
 
-/// Each row that `places` names has these classes no more.
+// Each row that `places` names has these classes no more.
 fn remove_all_at(rows: &mut [ClassSet], places: &ClassSet, classes: &ClassSet)
     requires { length rows.old ≡ CLASSES }
     ensures count { length rows.new ≡ CLASSES }
@@ -77,7 +77,7 @@ fn remove_all_at(rows: &mut [ClassSet], places: &ClassSet, classes: &ClassSet)
 }
 
 impl Ancestry {
-    /// Every class is at or below itself alone. All memory is taken here.
+    // Every class is at or below itself alone. All memory is taken here.
     pub(crate) fn new(alloc: Global) -> Result<Ancestry, NoMemory>
         ensures { IfOk result (λ a. (low high : ℕ) → low < CLASSES → high < CLASSES → holds a low high ≡ (low == high)) }
     {
@@ -86,7 +86,7 @@ impl Ancestry {
         Ok(Ancestry { above, below })
     }
 
-    /// The same once more.
+    // The same once more.
     pub(crate) fn copy(&self) -> Result<Ancestry, NoMemory>
         ensures { IfOk result (λ a. a ≡ self.now) }
     {
@@ -95,36 +95,36 @@ impl Ancestry {
         Ok(Ancestry { above, below })
     }
 
-    /// Whether `low` is at or below `high`.
+    // Whether `low` is at or below `high`.
     pub(crate) fn holds(&self, low: ClassNo, high: ClassNo) -> bool
         ensures { result ≡ holds self.now low high }
     {
         self.above(low).contains(high)
     }
 
-    /// The classes at or above `low`.
+    // The classes at or above `low`.
     pub(crate) fn above(&self, low: ClassNo) -> &ClassSet
         ensures { result.now ≡ slice_index_or self.now low [] }
     {
         &self.above[low.number() as usize]
     }
 
-    /// The classes at or below `high`.
+    // The classes at or below `high`.
     pub(crate) fn below(&self, high: ClassNo) -> &ClassSet
         ensures { (low : ℕ) → low < CLASSES → has_number result.now low ≡ holds self.now low high }
     {
         self.counted_below(high).as_set()
     }
 
-    /// The same, with how many they are.
+    // The same, with how many they are.
     pub(crate) fn counted_below(&self, high: ClassNo) -> &CountedSet
         ensures { (low : ℕ) → low < CLASSES → has_number result.now low ≡ holds self.now low high }
     {
         &self.below[high.number() as usize]
     }
 
-    /// From now on `class` is below `parent`: what was at or below the one is at or below what was at or above the
-    /// other.
+    // From now on `class` is below `parent`: what was at or below the one is at or below what was at or above the
+    // other.
     pub(crate) fn join(&mut self, class: ClassNo, parent: ClassNo)
         ensures { (low high : ℕ) → low < CLASSES → high < CLASSES → holds self.new low high
             ≡ (holds self.old low high || (holds self.old low class && holds self.old parent high)) }
@@ -134,7 +134,7 @@ impl Ancestry {
         self.put_below(&lows, &highs);
     }
 
-    /// From now on each of the lows is at or below each of the highs.
+    // From now on each of the lows is at or below each of the highs.
     pub(crate) fn put_below(&mut self, lows: &ClassSet, highs: &ClassSet)
         ensures { (low high : ℕ) → low < CLASSES → high < CLASSES → holds self.new low high
             ≡ (holds self.old low high || (has_number lows.now low && has_number highs.now high)) }
@@ -143,7 +143,7 @@ impl Ancestry {
         insert_counted(&mut self.below, highs, lows);
     }
 
-    /// From now on none of the lows is at or below any of the highs.
+    // From now on none of the lows is at or below any of the highs.
     pub(crate) fn part(&mut self, lows: &ClassSet, highs: &ClassSet)
         ensures { (low high : ℕ) → low < CLASSES → high < CLASSES → holds self.new low high
             ≡ (holds self.old low high && not (has_number lows.now low && has_number highs.now high)) }
@@ -152,7 +152,7 @@ impl Ancestry {
         remove_counted(&mut self.below, highs, lows);
     }
 
-    /// From now on the classes at or above `low` are these.
+    // From now on the classes at or above `low` are these.
     pub(crate) fn set_above(&mut self, low: ClassNo, row: &ClassSet)
         ensures { (l h : ℕ) → l < CLASSES → h < CLASSES
             → holds self.new l h ≡ (if l == low then has_number row.now h else holds self.old l h) }

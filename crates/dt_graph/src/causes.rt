@@ -7,7 +7,7 @@ use crate::class_no::ClassNo;
 use crate::graph_fault::GraphFault;
 use crate::limits::PARENTS;
 
-/// The first class that stands among the earlier ones.
+// The first class that stands among the earlier ones.
 fn first_repeated(classes: &[ClassNo]) -> Option<ClassNo>
     ensures { result ≡ first_repeated [] classes.now }
 {
@@ -20,7 +20,7 @@ fn first_repeated(classes: &[ClassNo]) -> Option<ClassNo>
 }
 
 impl ClassGraph {
-    /// The first of the classes that isn't live.
+    // The first of the classes that isn't live.
     fn first_unknown(&self, classes: &[ClassNo]) -> Option<ClassNo>
         ensures { result ≡ find (λ class. not (is_live self.now class)) classes.now }
     {

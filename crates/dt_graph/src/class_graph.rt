@@ -87,21 +87,21 @@ impl ClassGraph {
         self.rows.parents(class)
     }
 
-    /// How many parents the class has.
+    // How many parents the class has.
     pub(crate) fn parent_count(&self, class: ClassNo) -> usize
         ensures { result ≡ parent_count self.now.links class }
     {
         self.parents(class).len()
     }
 
-    /// Whether a link leads from the class to the parent.
+    // Whether a link leads from the class to the parent.
     pub(crate) fn has_link(&self, class: ClassNo, parent: ClassNo) -> bool
         ensures { result ≡ has_link self.now.links class parent }
     {
         self.parents(class).contains(&parent)
     }
 
-    /// The lowest class that has it as a parent.
+    // The lowest class that has it as a parent.
     pub(crate) fn lowest_subclass(&self, class: ClassNo) -> Option<ClassNo>
         ensures { result ≡ lowest_subclass self.now.links class }
     {
@@ -111,7 +111,7 @@ impl ClassGraph {
         self.first_with_parent(below.classes().as_slice(), class)
     }
 
-    /// The first of the classes that has the parent.
+    // The first of the classes that has the parent.
     fn first_with_parent(&self, classes: &[ClassNo], parent: ClassNo) -> Option<ClassNo>
         ensures { result ≡ find (λ class. has_link self.now.links class parent) classes.now }
     {
@@ -138,7 +138,7 @@ impl ClassGraph {
         self.counted_below(class).as_set()
     }
 
-    /// The same, with how many they are.
+    // The same, with how many they are.
     fn counted_below(&self, class: ClassNo) -> &CountedSet
         ensures test { (low : ℕ) → has_number result.now low ≡ is_below self.now.links low class }
         ensures live { IsTrue (is_live self.now class) → result.now ≡ descendants self.now class }
@@ -305,7 +305,7 @@ impl ClassGraph {
         renew(&self.rows, &mut self.ancestry, class);
     }
 
-    /// The class is live from now on, with these parents.
+    // The class is live from now on, with these parents.
     fn insert(&mut self, class: ClassNo, parents: &[ClassNo])
         requires { add_cause self.old class parents.now ≡ None }
         ensures { self.new ≡ add_effect self.old class parents.now }
@@ -314,7 +314,7 @@ impl ClassGraph {
         join_all(&mut self.ancestry, class, parents);
     }
 
-    /// The class isn't live from now on, and has no parents.
+    // The class isn't live from now on, and has no parents.
     fn remove(&mut self, class: ClassNo)
         requires { drop_cause self.old class ≡ None }
         ensures { self.new ≡ drop_effect self.old class }
@@ -324,7 +324,7 @@ impl ClassGraph {
         renew(&self.rows, &mut self.ancestry, class);
     }
 
-    /// The class has one parent more.
+    // The class has one parent more.
     fn insert_link(&mut self, class: ClassNo, parent: ClassNo)
         requires { link_cause self.old class parent ≡ None }
         ensures { self.new ≡ link_effect self.old class parent }
@@ -333,7 +333,7 @@ impl ClassGraph {
         self.ancestry.join(class, parent);
     }
 
-    /// The class has one parent less.
+    // The class has one parent less.
     fn remove_link(&mut self, class: ClassNo, parent: ClassNo)
         ensures { self.new ≡ unlink_effect self.old class parent }
     {

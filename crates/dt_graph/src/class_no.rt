@@ -25,7 +25,7 @@ impl Model for ClassNo {
 }
 
 impl Default for ClassNo {
-    /// The class of the number 0.
+    // The class of the number 0.
     fn default() -> ClassNo
         ensures { result ≡ 0 }
     {

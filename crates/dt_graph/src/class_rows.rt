@@ -16,7 +16,7 @@ use arrayvec::ArrayVec;
 use std::alloc::Global;
 use std::marker::Model;
 
-/// What is kept of one class: whether it is live, and its parents in ascending order.
+// What is kept of one class: whether it is live, and its parents in ascending order.
 #[derive(Clone, Debug, Drop)]
 struct Row {
     is_live: bool,
@@ -24,7 +24,7 @@ struct Row {
 }
 
 impl Row {
-    /// The row of a class that isn't live.
+    // The row of a class that isn't live.
     fn empty() -> Row
         ensures not_live { result.is_live ≡ false }
         ensures no_parents { result.parents.items ≡ [] }
@@ -35,7 +35,7 @@ impl Row {
         }
     }
 
-    /// The row of a class that is live with these parents, or of one that isn't.
+    // The row of a class that is live with these parents, or of one that isn't.
     fn restored(is_live: bool, parents: &[ClassNo]) -> Row
         requires { length parents.now ≤ PARENTS }
         ensures live { result.is_live ≡ is_live }
@@ -51,7 +51,7 @@ impl Row {
     }
 }
 
-/// The live classes and their parents, a row for each class.
+// The live classes and their parents, a row for each class.
 #[derive(Debug, Drop)]
 pub(crate) struct ClassRows {
     rows: Vec<Row>,
@@ -70,7 +70,7 @@ impl Model for ClassRows {
 }
 
 impl ClassRows {
-    /// Rows with no live class. All memory that they will ever need is taken here.
+    // Rows with no live class. All memory that they will ever need is taken here.
     pub(crate) fn new(alloc: Global) -> Result<ClassRows, NoMemory>
         ensures { IfOk result (λ r. r ≡ empty_graph) }
     {
@@ -81,7 +81,7 @@ impl ClassRows {
         Ok(ClassRows { rows })
     }
 
-    /// Equal rows.
+    // Equal rows.
     pub(crate) fn copy(&self) -> Result<ClassRows, NoMemory>
         ensures { IfOk result (λ r. r ≡ self.now) }
     {
@@ -90,21 +90,21 @@ impl ClassRows {
         })
     }
 
-    /// Whether the class is live.
+    // Whether the class is live.
     pub(crate) fn is_live(&self, class: ClassNo) -> bool
         ensures { result ≡ is_live self.now class }
     {
         self.rows[class.number() as usize].is_live
     }
 
-    /// The parents of the class, in ascending order: none where it isn't live.
+    // The parents of the class, in ascending order: none where it isn't live.
     pub(crate) fn parents(&self, class: ClassNo) -> &[ClassNo]
         ensures { result.now ≡ parents_of self.now.links class }
     {
         self.rows[class.number() as usize].parents.as_slice()
     }
 
-    /// What holds of all rows. It does nothing: a caller whose reasoning needs this calls it.
+    // What holds of all rows. It does nothing: a caller whose reasoning needs this calls it.
     pub(crate) fn law(&self)
         ensures lawful { LawfulGraph self.now }
         ensures live_in_range { (class : ℕ) → IsTrue (is_live self.now class) → class < CLASSES }
@@ -118,7 +118,7 @@ impl ClassRows {
         let _ = &self.rows;
     }
 
-    /// The class is as it was before a change: live with these parents alone, or not live.
+    // The class is as it was before a change: live with these parents alone, or not live.
     pub(crate) fn restore(&mut self, class: ClassNo, is_live: bool, parents: &[ClassNo])
         requires few { length parents.now ≤ PARENTS }
         requires lawful { LawfulGraph (restore_effect self.old class is_live parents.now) }
@@ -127,7 +127,7 @@ impl ClassRows {
         self.rows[class.number() as usize] = Row::restored(is_live, parents);
     }
 
-    /// The class is live from now on, with these parents.
+    // The class is live from now on, with these parents.
     pub(crate) fn insert(&mut self, class: ClassNo, parents: &[ClassNo])
         requires { add_cause self.old class parents.now ≡ None }
         ensures { self.new ≡ add_effect self.old class parents.now }
@@ -138,7 +138,7 @@ impl ClassRows {
         };
     }
 
-    /// The class isn't live from now on, and has no parents.
+    // The class isn't live from now on, and has no parents.
     pub(crate) fn remove(&mut self, class: ClassNo)
         requires { drop_cause self.old class ≡ None }
         ensures { self.new ≡ drop_effect self.old class }
@@ -146,7 +146,7 @@ impl ClassRows {
         self.rows[class.number() as usize] = Row::empty();
     }
 
-    /// The class has one parent more.
+    // The class has one parent more.
     pub(crate) fn insert_link(&mut self, class: ClassNo, parent: ClassNo)
         requires { link_cause self.old class parent ≡ None }
         ensures { self.new ≡ link_effect self.old class parent }
@@ -155,7 +155,7 @@ impl ClassRows {
         place(&mut row.parents, parent);
     }
 
-    /// The class has one parent less.
+    // The class has one parent less.
     pub(crate) fn remove_link(&mut self, class: ClassNo, parent: ClassNo)
         ensures { self.new ≡ unlink_effect self.old class parent }
     {

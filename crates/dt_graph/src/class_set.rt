@@ -9,10 +9,10 @@ use crate::no_memory::NoMemory;
 use arrayvec::ArrayVec;
 use std::marker::Model;
 
-/// How many classes a word tells of.
+// How many classes a word tells of.
 const BITS: usize = 64;
 
-/// How many words tell of all classes.
+// How many words tell of all classes.
 const WORDS: usize = CLASSES as usize / BITS;
 
 const PLACES: usize = CLASSES as usize;
@@ -73,7 +73,7 @@ impl ClassSet {
         (self.words[number / BITS] >> (number % BITS)) & 1 == 1
     }
 
-    /// Whether it is the other set; where it isn't, nothing is said.
+    // Whether it is the other set; where it isn't, nothing is said.
     pub(crate) fn is_same(&self, other: &ClassSet) -> bool
         ensures { IsTrue result → self.now ≡ other.now }
     {
@@ -114,7 +114,7 @@ impl ClassSet {
         Some(ClassNo::from_index(place * BITS + word.trailing_zeros() as usize))
     }
 
-    /// The class that is in the set alone; `None` where there is none or are more.
+    // The class that is in the set alone; `None` where there is none or are more.
     pub(crate) fn only(&self) -> Option<ClassNo>
         ensures { IfSome result (λ class. self.now ≡ class ∷ []) }
     {
@@ -152,8 +152,8 @@ impl ClassSet {
         }
     }
 
-    /// The classes of the other set are in the set from now on, too; answers how many the set has then. The count costs
-    /// less here than in a pass of its own.
+    // The classes of the other set are in the set from now on, too; answers how many the set has then. The count costs
+    // less here than in a pass of its own.
     pub(crate) fn insert_all_counting(&mut self, other: &ClassSet) -> usize
         ensures members { (n : ℕ) → has_number self.new n ≡ (has_number self.old n || has_number other.now n) }
         ensures count { result ≡ length self.new }

@@ -9,7 +9,7 @@ use crate::limits::CLASSES;
 use crate::no_memory::NoMemory;
 use std::alloc::Global;
 
-/// For each class the set of it alone.
+// For each class the set of it alone.
 pub(crate) fn each_counted(alloc: Global) -> Result<Vec<CountedSet>, NoMemory>
     ensures count { IfOk result (λ rows. length rows.items ≡ CLASSES) }
     ensures rows { IfOk result (λ rows. (k n : ℕ) → k < CLASSES → n < CLASSES → row_has rows.items k n ≡ (k == n)) }
@@ -21,7 +21,7 @@ pub(crate) fn each_counted(alloc: Global) -> Result<Vec<CountedSet>, NoMemory>
     Ok(rows)
 }
 
-/// Each row that `places` names has these classes too from now on.
+// Each row that `places` names has these classes too from now on.
 pub(crate) fn insert_counted(rows: &mut [CountedSet], places: &ClassSet, classes: &ClassSet)
     requires { length rows.old ≡ CLASSES }
     ensures count { length rows.new ≡ CLASSES }
@@ -35,7 +35,7 @@ pub(crate) fn insert_counted(rows: &mut [CountedSet], places: &ClassSet, classes
     }
 }
 
-/// Each row that `places` names has the class too from now on.
+// Each row that `places` names has the class too from now on.
 fn insert_at(rows: &mut [CountedSet], places: &ClassSet, class: ClassNo)
     requires { length rows.old ≡ CLASSES }
     ensures count { length rows.new ≡ CLASSES }
@@ -50,7 +50,7 @@ fn insert_at(rows: &mut [CountedSet], places: &ClassSet, class: ClassNo)
     }
 }
 
-/// Each row that `places` names has these classes too from now on.
+// Each row that `places` names has these classes too from now on.
 fn insert_all_at(rows: &mut [CountedSet], places: &ClassSet, classes: &ClassSet)
     requires { length rows.old ≡ CLASSES }
     ensures count { length rows.new ≡ CLASSES }
@@ -65,7 +65,7 @@ fn insert_all_at(rows: &mut [CountedSet], places: &ClassSet, classes: &ClassSet)
     }
 }
 
-/// Each row that `places` names has the class no more.
+// Each row that `places` names has the class no more.
 pub(crate) fn remove_at(rows: &mut [CountedSet], places: &ClassSet, class: ClassNo)
     requires { length rows.old ≡ CLASSES }
     ensures count { length rows.new ≡ CLASSES }
@@ -80,7 +80,7 @@ pub(crate) fn remove_at(rows: &mut [CountedSet], places: &ClassSet, class: Class
     }
 }
 
-/// Each row that `places` names has these classes no more.
+// Each row that `places` names has these classes no more.
 pub(crate) fn remove_counted(rows: &mut [CountedSet], places: &ClassSet, classes: &ClassSet)
     requires { length rows.old ≡ CLASSES }
     ensures count { length rows.new ≡ CLASSES }

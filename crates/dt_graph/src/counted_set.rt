@@ -5,11 +5,11 @@ use crate::class_no::ClassNo;
 use crate::class_set::ClassSet;
 use std::marker::Model;
 
-/// A set of classes that keeps how many they are. It is seen as the set is.
+// A set of classes that keeps how many they are. It is seen as the set is.
 #[derive(Clone, Debug, Drop)]
 pub(crate) struct CountedSet {
     classes: ClassSet,
-    /// How many classes are in the set.
+    // How many classes are in the set.
     size: u16,
 }
 
@@ -24,7 +24,7 @@ impl Model for CountedSet {
 }
 
 impl CountedSet {
-    /// The set of this class alone.
+    // The set of this class alone.
     pub(crate) fn alone(class: ClassNo) -> CountedSet
         ensures { result ≡ class ∷ [] }
     {
@@ -33,21 +33,21 @@ impl CountedSet {
         CountedSet { classes, size: 1 }
     }
 
-    /// The set without the number.
+    // The set without the number.
     pub(crate) fn as_set(&self) -> &ClassSet
         ensures { result.now ≡ self.now }
     {
         &self.classes
     }
 
-    /// How many classes are in the set. It reads a number.
+    // How many classes are in the set. It reads a number.
     pub(crate) fn len(&self) -> usize
         ensures { result ≡ length self.now }
     {
         self.size as usize
     }
 
-    /// The class is in the set from now on. It takes one step.
+    // The class is in the set from now on. It takes one step.
     pub(crate) fn insert(&mut self, class: ClassNo)
         ensures { (n : ℕ) → has_number self.new n ≡ (has_number self.old n || (class == n)) }
     {
@@ -58,7 +58,7 @@ impl CountedSet {
         }
     }
 
-    /// The class isn't in the set from now on. It takes one step.
+    // The class isn't in the set from now on. It takes one step.
     pub(crate) fn remove(&mut self, class: ClassNo)
         ensures { (n : ℕ) → has_number self.new n ≡ (has_number self.old n && not (n == class)) }
     {
@@ -70,14 +70,14 @@ impl CountedSet {
         }
     }
 
-    /// The classes of the other set are in the set from now on, too.
+    // The classes of the other set are in the set from now on, too.
     pub(crate) fn insert_all(&mut self, other: &ClassSet)
         ensures { (n : ℕ) → has_number self.new n ≡ (has_number self.old n || has_number other.now n) }
     {
         self.size = self.classes.insert_all_counting(other) as u16;
     }
 
-    /// The classes of the other set aren't in the set from now on.
+    // The classes of the other set aren't in the set from now on.
     pub(crate) fn remove_all(&mut self, other: &ClassSet)
         ensures { (n : ℕ) → has_number self.new n ≡ (has_number self.old n && not (has_number other.now n)) }
     {

@@ -91,7 +91,7 @@ pub fn changes_are_undone()
         → restore_effect new class (is_live old class) (parents_of old.links class) ≡ old }
 {}
 
-/// Types whose values threads may hand on and share.
+// Types whose values threads may hand on and share.
 fn is_shared<T: Send + Sync>() {}
 
 /// A graph may be handed to another thread, and read by several.

@@ -32,18 +32,18 @@ impl From<AllocError> for ReadFault {
     }
 }
 
-/// How many bytes are asked for at a time.
+// How many bytes are asked for at a time.
 const ROOM: usize = 65_536;
 
-/// Room for what a source gives at a time.
+// Room for what a source gives at a time.
 fn room_for_reading(alloc: Global) -> Result<Vec<u8>, AllocError>
     ensures { IfOk result (λ room. 0 < vec_len room) }
 {
     vec![in alloc; 0; ROOM]
 }
 
-/// Reads once, and puts what it got behind the bytes, of which there are at most `limit` before and one more after.
-/// Answers how many bytes it got; 0 is the end of input.
+// Reads once, and puts what it got behind the bytes, of which there are at most `limit` before and one more after.
+// Answers how many bytes it got; 0 is the end of input.
 fn read_some<S: Source>(
     source: &mut S,
     room: &mut [u8],

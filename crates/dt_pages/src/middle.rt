@@ -6,13 +6,13 @@ use dt_graph::NoMemory;
 use std::alloc::Global;
 use std::marker::Model;
 
-/// How many leaves a middle node stands over.
+// How many leaves a middle node stands over.
 const LEAVES: usize = 512;
 
-/// How many words a middle node stands over.
+// How many words a middle node stands over.
 pub(crate) const MIDDLE: usize = LEAVES * LEAF;
 
-/// The words of 512 leaves that follow one another. A leaf that was never written is missing, and its words are 0.
+// The words of 512 leaves that follow one another. A leaf that was never written is missing, and its words are 0.
 #[derive(Drop)]
 pub(crate) struct Middle {
     leaves: Vec<Option<Leaf>>,
@@ -29,7 +29,7 @@ impl Model for Middle {
     ghost invariant = { λ m. length m.leaves.items ≡ 512 };
 }
 
-/// So many missing leaves.
+// So many missing leaves.
 fn no_leaves(alloc: Global, count: usize) -> Result<Vec<Option<Leaf>>, NoMemory>
     ensures count { IfOk result (λ leaves. length leaves.items ≡ count) }
     ensures missing { IfOk result (λ leaves. (at : ℕ) → get_or leaves.items at None ≡ None) }
@@ -42,7 +42,7 @@ fn no_leaves(alloc: Global, count: usize) -> Result<Vec<Option<Leaf>>, NoMemory>
 }
 
 impl Middle {
-    /// A node without leaves.
+    // A node without leaves.
     pub(crate) fn new(alloc: Global) -> Result<Middle, NoMemory>
         ensures { IfOk result (λ middle. (at : ℕ) → word_of_middle (Some middle) at ≡ 0) }
     {
@@ -50,7 +50,7 @@ impl Middle {
         Ok(Middle { leaves })
     }
 
-    /// The word at this place.
+    // The word at this place.
     pub(crate) fn word(&self, at: usize) -> u64
         requires { at < 262144 }
         ensures { result ≡ word_of_middle (Some self.now) at }
@@ -61,7 +61,7 @@ impl Middle {
         }
     }
 
-    /// The leaf of this place is there; no word changes.
+    // The leaf of this place is there; no word changes.
     pub(crate) fn make_room(&mut self, alloc: Global, at: usize) -> Result<(), NoMemory>
         requires { at < 262144 }
         ensures words { (q : ℕ) → word_of_middle (Some self.new) q ≡ word_of_middle (Some self.old) q }
@@ -75,7 +75,7 @@ impl Middle {
         Ok(())
     }
 
-    /// The word at this place, whose leaf is there, is another.
+    // The word at this place, whose leaf is there, is another.
     pub(crate) fn set(&mut self, at: usize, word: u64)
         requires within { at < 262144 }
         requires room { has_leaf (Some self.old) at ≡ true }

@@ -9,7 +9,7 @@ use crate::middle::{MIDDLE, Middle};
 use dt_graph::NoMemory;
 use std::alloc::Global;
 
-/// The middle node of this place is there; no word changes.
+// The middle node of this place is there; no word changes.
 fn make_middle(
     alloc: Global,
     middles: &mut Vec<Option<Middle>>,
@@ -27,7 +27,7 @@ fn make_middle(
     Ok(())
 }
 
-/// The leaf of the address, whose middle node is there, is there; no word changes.
+// The leaf of the address, whose middle node is there, is there; no word changes.
 fn make_leaf(alloc: Global, middles: &mut Vec<Option<Middle>>, at: usize) -> Result<(), NoMemory>
     requires count { length middles.old.items ≡ 512 }
     requires within { at < addresses }
@@ -43,7 +43,7 @@ fn make_leaf(alloc: Global, middles: &mut Vec<Option<Middle>>, at: usize) -> Res
     }
 }
 
-/// The word at the address, whose leaf is there, is another.
+// The word at the address, whose leaf is there, is another.
 fn lay(middles: &mut Vec<Option<Middle>>, at: usize, word: u64)
     requires count { length middles.old.items ≡ 512 }
     requires within { at < addresses }
@@ -57,7 +57,7 @@ fn lay(middles: &mut Vec<Option<Middle>>, at: usize, word: u64)
     }
 }
 
-/// The leaves of all words of the draft are there; no word changes.
+// The leaves of all words of the draft are there; no word changes.
 pub(crate) fn make_rooms(middles: &mut Vec<Option<Middle>>, draft: &Draft) -> Result<(), NoMemory>
     requires { length middles.old.items ≡ 512 }
     ensures count { length middles.new.items ≡ 512 }
@@ -73,7 +73,7 @@ pub(crate) fn make_rooms(middles: &mut Vec<Option<Middle>>, draft: &Draft) -> Re
     Ok(())
 }
 
-/// The words of the draft, whose leaves are there, are set.
+// The words of the draft, whose leaves are there, are set.
 pub(crate) fn lay_all(middles: &mut Vec<Option<Middle>>, draft: &Draft)
     requires count { length middles.old.items ≡ 512 }
     requires rooms { (q : ℕ) → is_some (get draft.now q) ≡ true → has_room middles.old.items q ≡ true }

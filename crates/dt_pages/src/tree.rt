@@ -12,7 +12,7 @@ use dt_graph::NoMemory;
 use std::alloc::Global;
 use std::marker::Model;
 
-/// How many middle nodes a tree has.
+// How many middle nodes a tree has.
 const MIDDLES: usize = 512;
 
 /// An image, kept so that a word is read in three steps: the middle node, the leaf, the word. It is seen as the image.
@@ -37,7 +37,7 @@ impl Model for Tree {
     ghost invariant = { λ t. length t.middles.items ≡ 512 };
 }
 
-/// So many missing nodes.
+// So many missing nodes.
 fn no_middles(alloc: Global, count: usize) -> Result<Vec<Option<Middle>>, NoMemory>
     ensures count { IfOk result (λ middles. length middles.items ≡ count) }
     ensures missing { IfOk result (λ middles. (at : ℕ) → get_or middles.items at None ≡ None) }
@@ -89,7 +89,7 @@ impl Tree {
     }
 }
 
-/// A tree is read at no cost, and nothing changes.
+// A tree is read at no cost, and nothing changes.
 impl Words for Tree {
     ghost use Rattle.std.specs.Prelude.{◌≡◌};
     ghost use Rattle.std.proofs.Common.{refl, ◌∙◌};

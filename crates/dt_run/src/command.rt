@@ -3,7 +3,7 @@ ghost use Rattle.dt_run.specs.Run.{run_words};
 
 use crate::arg_words::ArgWords;
 
-/// Whether the word in this place, from 1, is this text.
+// Whether the word in this place, from 1, is this text.
 fn is_word(words: &ArgWords, place: usize, text: &str) -> bool
     requires { 0 < place }
     ensures { IsTrue result ↔ (slice_get words.now (place - 1) ≡ Some text.now) }

@@ -11,10 +11,10 @@ use dt_definitions::{ApplyFault, Edit, NoMemory, Program};
 use dt_scratch::{Query, Reply, resolve};
 use std::alloc::Global;
 
-/// The caller of a first script.
+// The caller of a first script.
 const CALLER: u16 = 1;
 
-/// Applies an edit as a batch of its own, brings the version up, and puts the edit's line behind the others.
+// Applies an edit as a batch of its own, brings the version up, and puts the edit's line behind the others.
 fn perform_edit(
     program: &mut Program,
     version: &mut u64,
@@ -40,7 +40,7 @@ fn perform_edit(
     }
 }
 
-/// Applies the edits in order, each as a batch of its own. Answers a line for each, and the version after them.
+// Applies the edits in order, each as a batch of its own. Answers a line for each, and the version after them.
 fn perform_edits(
     alloc: Global,
     program: &mut Program,
@@ -59,7 +59,7 @@ fn perform_edits(
     Ok((lines, version))
 }
 
-/// Makes the calls in order at this version of the program, and answers a line for each.
+// Makes the calls in order at this version of the program, and answers a line for each.
 fn perform_calls<T: Turnstile>(
     alloc: Global,
     program: &Program,
@@ -83,7 +83,7 @@ fn perform_calls<T: Turnstile>(
     Ok(lines)
 }
 
-/// Makes the calls of the caller, if there is one.
+// Makes the calls of the caller, if there is one.
 fn perform_callers<T: Turnstile>(
     alloc: Global,
     program: &Program,

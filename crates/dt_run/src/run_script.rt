@@ -31,14 +31,14 @@ pub struct Ran {
     pub log: Option<Log>,
 }
 
-/// What performing the bytes of a script gave.
+// What performing the bytes of a script gave.
 #[derive(Drop)]
 struct Performed {
     log: Log,
     text: Vec<u8>,
 }
 
-/// Reads the script that the bytes are, performs it, and makes the text of its log.
+// Reads the script that the bytes are, performs it, and makes the text of its log.
 fn perform_bytes<T: Turnstile>(
     alloc: Global,
     bytes: &[u8],
@@ -53,11 +53,11 @@ fn perform_bytes<T: Turnstile>(
     Ok(Performed { log, text })
 }
 
-/// What is told where the words aren't a command.
+// What is told where the words aren't a command.
 const USAGE: &str =
     "usage: dispatch run --table sti|colour|row|mrd [--readers R] [--pages P] [--limit L]\n       dispatch gen --table sti|colour|row|mrd --number N --classes C --selectors S\n";
 
-/// Puts the text of a fault, and ends with the status. A sink that fails here changes nothing of the status.
+// Puts the text of a fault, and ends with the status. A sink that fails here changes nothing of the status.
 fn end_with<K: Sink>(sink: &mut K, status: Status, text: &[u8]) -> Ran
     ensures status { result.status ≡ status }
     ensures log { result.log ≡ None }
@@ -69,7 +69,7 @@ fn end_with<K: Sink>(sink: &mut K, status: Status, text: &[u8]) -> Ran
     Ran { status, log: None }
 }
 
-/// Prints the text of what was performed, and hands back its log.
+// Prints the text of what was performed, and hands back its log.
 fn print<K: Sink>(sink: &mut K, performed: Performed) -> Ran
     ensures log { result.log ≡ Some performed.log }
     ensures printed { Printed result.status (K.taken sink.old) (K.taken sink.new) (K.faults sink.old) (K.faults sink.new) performed.text.items }
@@ -86,7 +86,7 @@ fn print<K: Sink>(sink: &mut K, performed: Performed) -> Ran
     }
 }
 
-/// Reads the source to its end, performs the script that its bytes are, and prints the log.
+// Reads the source to its end, performs the script that its bytes are, and prints the log.
 fn run_source<S: Source, K: Sink, T: Turnstile>(
     alloc: Global,
     source: &mut S,

@@ -10,7 +10,7 @@ use dt_scratch::{Answer, Reply};
 use itoa::Buffer;
 use std::alloc::Global;
 
-/// Puts a word behind a space at the end of the text.
+// Puts a word behind a space at the end of the text.
 fn push_word(text: &mut Vec<u8>, word: &[u8]) -> Result<(), NoMemory>
     ensures { OnOk result (text.new.items ≡ text.old.items ++ 32 ∷ word.now) }
 {
@@ -19,7 +19,7 @@ fn push_word(text: &mut Vec<u8>, word: &[u8]) -> Result<(), NoMemory>
     Ok(())
 }
 
-/// Puts a number behind a space at the end of the text.
+// Puts a number behind a space at the end of the text.
 fn push_number(text: &mut Vec<u8>, number: u64) -> Result<(), NoMemory>
     ensures { OnOk result (text.new.items ≡ text.old.items ++ 32 ∷ decimal number) }
 {
@@ -27,7 +27,7 @@ fn push_number(text: &mut Vec<u8>, number: u64) -> Result<(), NoMemory>
     push_word(text, buffer.format(number).as_bytes())
 }
 
-/// Puts the name of the class, if there is one, behind a space at the end of the text.
+// Puts the name of the class, if there is one, behind a space at the end of the text.
 fn push_class(text: &mut Vec<u8>, names: &NameBook, class: Option<ClassNo>) -> Result<(), NoMemory>
     ensures { OnOk result (text.new.items ≡ text.old.items ++ spaced (class_words names.now class)) }
 {
@@ -37,7 +37,7 @@ fn push_class(text: &mut Vec<u8>, names: &NameBook, class: Option<ClassNo>) -> R
     }
 }
 
-/// Puts the words that tell a refusal at the end of the text.
+// Puts the words that tell a refusal at the end of the text.
 fn push_why(text: &mut Vec<u8>, names: &NameBook, why: Why) -> Result<(), NoMemory>
     ensures { OnOk result (text.new.items ≡ text.old.items ++ spaced (words_of_why names.now why)) }
 {
@@ -46,7 +46,7 @@ fn push_why(text: &mut Vec<u8>, names: &NameBook, why: Why) -> Result<(), NoMemo
     push_class(text, names, why.class())
 }
 
-/// Puts the words of a reply at the end of the text.
+// Puts the words of a reply at the end of the text.
 fn push_reply(text: &mut Vec<u8>, names: &NameBook, reply: Reply) -> Result<(), NoMemory>
     ensures { OnOk result (text.new.items ≡ text.old.items ++ spaced (words_of_reply names.now reply)) }
 {
@@ -61,7 +61,7 @@ fn push_reply(text: &mut Vec<u8>, names: &NameBook, reply: Reply) -> Result<(), 
     }
 }
 
-/// Puts the words of an answer at the end of the text.
+// Puts the words of an answer at the end of the text.
 fn push_answer(text: &mut Vec<u8>, names: &NameBook, answer: Answer) -> Result<(), NoMemory>
     ensures { OnOk result (text.new.items ≡ text.old.items ++ spaced (words_of_answer names.now answer)) }
 {
@@ -76,7 +76,7 @@ fn push_answer(text: &mut Vec<u8>, names: &NameBook, answer: Answer) -> Result<(
     }
 }
 
-/// Puts the words after `edit` at the end of the text.
+// Puts the words after `edit` at the end of the text.
 fn push_edit_words(text: &mut Vec<u8>, names: &NameBook, line: EditLine) -> Result<(), NoMemory>
     ensures { OnOk result (text.new.items ≡ text.old.items ++ spaced (words_of_edit names.now line)) }
 {
@@ -101,7 +101,7 @@ fn push_edit_words(text: &mut Vec<u8>, names: &NameBook, line: EditLine) -> Resu
     }
 }
 
-/// Puts the line of a batch at the end of the text.
+// Puts the line of a batch at the end of the text.
 #[tactic(auto, using(crate::proofs::Joined::join_spaced))]
 fn push_edit_line(text: &mut Vec<u8>, names: &NameBook, line: EditLine) -> Result<(), NoMemory>
     ensures { OnOk result (text.new.items ≡ text.old.items ++ line_of (codes "edit" ∷ words_of_edit names.now line)) }
@@ -112,7 +112,7 @@ fn push_edit_line(text: &mut Vec<u8>, names: &NameBook, line: EditLine) -> Resul
     Ok(())
 }
 
-/// Puts the words of a call that was answered at the end of the text.
+// Puts the words of a call that was answered at the end of the text.
 fn push_called(
     text: &mut Vec<u8>,
     names: &NameBook,
@@ -128,7 +128,7 @@ fn push_called(
     Ok(())
 }
 
-/// Puts the words of a caller's line, but for its line feed, at the end of the text.
+// Puts the words of a caller's line, but for its line feed, at the end of the text.
 fn push_call_words(
     text: &mut Vec<u8>,
     names: &NameBook,
@@ -163,7 +163,7 @@ fn push_call_words(
     }
 }
 
-/// Puts a caller's line at the end of the text.
+// Puts a caller's line at the end of the text.
 fn push_call_line(
     text: &mut Vec<u8>,
     names: &NameBook,
@@ -177,7 +177,7 @@ fn push_call_line(
     Ok(())
 }
 
-/// Puts the lines of a caller at the end of the text.
+// Puts the lines of a caller at the end of the text.
 fn push_part(text: &mut Vec<u8>, names: &NameBook, part: &PartLog) -> Result<(), NoMemory>
     ensures { OnOk result (text.new.items ≡ text.old.items ++ text_of_part names.now part.now) }
 {
@@ -187,7 +187,7 @@ fn push_part(text: &mut Vec<u8>, names: &NameBook, part: &PartLog) -> Result<(),
     Ok(())
 }
 
-/// Puts the lines of batches at the end of the text.
+// Puts the lines of batches at the end of the text.
 fn push_edit_lines(text: &mut Vec<u8>, names: &NameBook, lines: &[EditLine]) -> Result<(), NoMemory>
     ensures { OnOk result (text.new.items ≡ text.old.items ++ text_of_edits names.now lines.now) }
 {
@@ -197,7 +197,7 @@ fn push_edit_lines(text: &mut Vec<u8>, names: &NameBook, lines: &[EditLine]) -> 
     Ok(())
 }
 
-/// Puts the lines of callers at the end of the text.
+// Puts the lines of callers at the end of the text.
 fn push_parts(text: &mut Vec<u8>, names: &NameBook, parts: &[PartLog]) -> Result<(), NoMemory>
     ensures { OnOk result (text.new.items ≡ text.old.items ++ flat_map (text_of_part names.now) parts.now) }
 {
@@ -207,7 +207,7 @@ fn push_parts(text: &mut Vec<u8>, names: &NameBook, parts: &[PartLog]) -> Result
     Ok(())
 }
 
-/// Puts the first line of a phase at the end of the text.
+// Puts the first line of a phase at the end of the text.
 fn push_phase_line(text: &mut Vec<u8>, number: u64, phase: &PhaseLog) -> Result<(), NoMemory>
     ensures { OnOk result (text.new.items ≡ text.old.items ++ line_of (words_of_phase number phase.now)) }
 {
@@ -219,7 +219,7 @@ fn push_phase_line(text: &mut Vec<u8>, number: u64, phase: &PhaseLog) -> Result<
     Ok(())
 }
 
-/// Puts the lines of a phase at the end of the text.
+// Puts the lines of a phase at the end of the text.
 fn push_phase(
     text: &mut Vec<u8>,
     names: &NameBook,
@@ -233,7 +233,7 @@ fn push_phase(
     push_parts(text, names, &phase.callers)
 }
 
-/// Puts the lines of the phases at the end of the text.
+// Puts the lines of the phases at the end of the text.
 fn push_phases(text: &mut Vec<u8>, names: &NameBook, phases: &[PhaseLog]) -> Result<(), NoMemory>
     ensures { OnOk result (text.new.items ≡ text.old.items ++ text_of_phases names.now 1 phases.now) }
 {

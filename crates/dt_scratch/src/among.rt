@@ -12,8 +12,8 @@ use crate::specificity::{are_below, is_more_specific, law_of_specificity};
 use dt_definitions::Defined;
 use dt_graph::{ClassGraph, ClassNo};
 
-/// One of the definitions that are applicable to the classes, and no other such is more specific; `None` where
-/// none is applicable. And whether it was found to be more specific than all others.
+// One of the definitions that are applicable to the classes, and no other such is more specific; `None` where
+// none is applicable. And whether it was found to be more specific than all others.
 fn most_specific<'a>(
     graph: &ClassGraph,
     definitions: &'a [Defined],
@@ -40,7 +40,7 @@ fn most_specific<'a>(
     (best, is_lowest)
 }
 
-/// Whether the definition is more specific than the best so far, if there is one.
+// Whether the definition is more specific than the best so far, if there is one.
 fn is_better(graph: &ClassGraph, defined: &Defined, best: Option<&Defined>) -> bool
     ensures { result ≡ is_better graph.now.links defined.now (option_copied best.entry) }
 {
@@ -50,7 +50,7 @@ fn is_better(graph: &ClassGraph, defined: &Defined, best: Option<&Defined>) -> b
     }
 }
 
-/// Whether the best so far, if there is one, is more specific than the definition.
+// Whether the best so far, if there is one, is more specific than the definition.
 fn beats(graph: &ClassGraph, best: Option<&Defined>, defined: &Defined) -> bool
     ensures { result ≡ beats graph.now.links (option_copied best.entry) defined.now }
 {
@@ -60,7 +60,7 @@ fn beats(graph: &ClassGraph, best: Option<&Defined>, defined: &Defined) -> bool
     }
 }
 
-/// Whether the best is more specific than all other definitions that are applicable to the classes.
+// Whether the best is more specific than all other definitions that are applicable to the classes.
 fn is_alone(
     graph: &ClassGraph,
     definitions: &[Defined],

@@ -6,7 +6,7 @@ use crate::query::Query;
 use arrayvec::ArrayVec;
 use dt_graph::{ClassGraph, ClassNo};
 
-/// The class of this number, if it is live.
+// The class of this number, if it is live.
 #[tactic(auto, using(crate::proofs::LiveNumbers::not_live))]
 fn live_class(graph: &ClassGraph, number: u16) -> Option<ClassNo>
     ensures { result ≡ (if is_live graph.now number then Some number else None) }
@@ -15,7 +15,7 @@ fn live_class(graph: &ClassGraph, number: u16) -> Option<ClassNo>
     ClassNo::new(number).filter(|class| graph.is_live(*class))
 }
 
-/// The classes of the query, or the first position, from 1, whose class isn't live.
+// The classes of the query, or the first position, from 1, whose class isn't live.
 pub(crate) fn live_classes(graph: &ClassGraph, query: &Query) -> Result<ArrayVec<ClassNo, 4>, u8>
     ensures { MatchResult result
         (λ live. (live.items ≡ query.now.classes) × (first_dead graph.now 1 query.now.classes ≡ None))

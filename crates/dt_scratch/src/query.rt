@@ -11,7 +11,7 @@ use std::cmp::Ordering;
 use std::fmt;
 use std::marker::Model;
 
-/// How many classes a query may have.
+// How many classes a query may have.
 const POSITIONS: usize = 4;
 
 /// A query: a selector is sent to one to four classes, one for each argument. The numbers are any `u16`, also
@@ -106,7 +106,7 @@ impl Query {
     }
 }
 
-/// The number of the selector, and those of the classes, with a space before each.
+// The number of the selector, and those of the classes, with a space before each.
 impl fmt::Display for Query {
     fn fmt<W: fmt::Write>(&self, f: &mut fmt::Formatter<W>) -> fmt::Result {
         let selector = self.selector;

@@ -35,7 +35,7 @@ pub struct Change {
     pub answer: Answer,
 }
 
-/// As a person reads it: `method` with the number of its body, `not understood` or `ambiguous`.
+// As a person reads it: `method` with the number of its body, `not understood` or `ambiguous`.
 impl fmt::Display for Answer {
     fn fmt<W: fmt::Write>(&self, f: &mut fmt::Formatter<W>) -> fmt::Result {
         match self {
@@ -49,7 +49,7 @@ impl fmt::Display for Answer {
     }
 }
 
-/// As a person reads it: why there is no answer, with the place of the class, or the answer.
+// As a person reads it: why there is no answer, with the place of the class, or the answer.
 impl fmt::Display for Reply {
     fn fmt<W: fmt::Write>(&self, f: &mut fmt::Formatter<W>) -> fmt::Result {
         match self {

@@ -39,7 +39,7 @@ pub fn names_keep_their_numbers()
     ensures known { KnownNamesStay }
 {}
 
-/// Types whose values threads may hand on and share.
+// Types whose values threads may hand on and share.
 fn is_shared<T: Send + Sync>() {}
 
 /// Names and selectors may be handed to another thread, and read by several.

@@ -25,7 +25,7 @@ impl Model for SelNo {
 }
 
 impl Default for SelNo {
-    /// The selector of the number 0.
+    // The selector of the number 0.
     fn default() -> SelNo
         ensures { result ≡ 0 }
     {
@@ -84,7 +84,7 @@ impl Model for BodyNo {
 }
 
 impl Default for BodyNo {
-    /// The body of the number 0.
+    // The body of the number 0.
     fn default() -> BodyNo
         ensures { result ≡ 0 }
     {

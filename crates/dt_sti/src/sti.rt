@@ -11,10 +11,10 @@ use dt_pages::{Draft, Tree, Words};
 use dt_scratch::{Answer, Change, Query};
 use std::alloc::Global;
 
-/// The cells begin here.
+// The cells begin here.
 const CELLS: u32 = 1 << 24;
 
-/// How many cells a selector has.
+// How many cells a selector has.
 const COLUMN: u32 = 2048;
 
 /// Selector table indexing, a kind for queries of one class. Each selector and class has a cell of its own, so no place
@@ -26,7 +26,7 @@ pub struct Sti;
 #[derive(Debug, Drop)]
 pub struct StiStaged;
 
-/// The class of a query of one class.
+// The class of a query of one class.
 fn only_class(query: &Query) -> u16
     requires { arity_of_query query.now ≤ 1 }
     ensures { query.now.classes ≡ result ∷ [] }
@@ -34,7 +34,7 @@ fn only_class(query: &Query) -> u16
     query.classes()[0]
 }
 
-/// The address of the cell of a selector and a class.
+// The address of the cell of a selector and a class.
 fn cell_address(selector: u16, class: u16) -> u32
     requires selector { selector < 4096 }
     requires class { class < 2048 }
@@ -44,14 +44,14 @@ fn cell_address(selector: u16, class: u16) -> u32
     CELLS + COLUMN * u32::from(selector) + u32::from(class)
 }
 
-/// The tag of a selector's cells.
+// The tag of a selector's cells.
 fn tag(selector: u16) -> u32
     ensures { result ≡ tag_of selector }
 {
     u32::from(selector) + 1
 }
 
-/// Sets the cell of a change, or clears it where the answer is not understood.
+// Sets the cell of a change, or clears it where the answer is not understood.
 fn set_cell(draft: &mut Draft, change: &Change) -> Result<(), NoMemory>
     requires { IsStageableChange 1 1 change.now }
     ensures { OnOk result ((base : Reading) (address : ℕ) → laid_over draft.new base address

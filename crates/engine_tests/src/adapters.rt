@@ -9,7 +9,7 @@ use std::io::{Read, Write};
 use std::test::Fail;
 use std::thread::Threads;
 
-/// A reader and writer of which each call fails.
+// A reader and writer of which each call fails.
 #[derive(Drop)]
 struct Broken;
 
@@ -29,7 +29,7 @@ impl Write for Broken {
     }
 }
 
-/// A writer that takes nothing.
+// A writer that takes nothing.
 #[derive(Drop)]
 struct Full;
 
@@ -43,7 +43,7 @@ impl Write for Full {
     }
 }
 
-/// How a run over this source ends, and whether the sink took this text.
+// How a run over this source ends, and whether the sink took this text.
 fn reads_so<H: Threads + Sync + AllocGlobal, S: Source>(
     rt: &H,
     words: &ArgWords,
@@ -56,7 +56,7 @@ fn reads_so<H: Threads + Sync + AllocGlobal, S: Source>(
     Some(ended == status && sink.bytes() == text.as_bytes())
 }
 
-/// Whether a run of the script into this sink ends so.
+// Whether a run of the script into this sink ends so.
 fn writes_so<H: Threads + Sync + AllocGlobal, K: Sink>(
     rt: &H,
     words: &ArgWords,

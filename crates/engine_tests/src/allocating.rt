@@ -5,7 +5,7 @@ use dt_selectors::{Arity, NameFault, Names, SelNo, Selectors};
 use std::alloc::Global;
 use std::test::Fail;
 
-/// Adds a few classes: 3 below 2, 2 below 5, and 7 alone.
+// Adds a few classes: 3 below 2, 2 below 5, and 7 alone.
 fn fill(graph: &mut ClassGraph) -> bool {
     graph.add(class(5), &[]).is_ok()
         && graph.add(class(2), &[class(5)]).is_ok()
@@ -13,7 +13,7 @@ fn fill(graph: &mut ClassGraph) -> bool {
         && graph.add(class(7), &[]).is_ok()
 }
 
-/// Whether the classes below are listed behind what was listed.
+// Whether the classes below are listed behind what was listed.
 fn lists(graph: &ClassGraph, below: ClassNo, listed: &mut Vec<ClassNo>, all: &[ClassNo]) -> bool {
     graph.descendants_into(below, listed).is_ok() && listed.as_slice() == all
 }
@@ -23,7 +23,7 @@ fn lists_below_2(alloc: Global, graph: &ClassGraph, all: &[ClassNo]) -> bool {
     listed.push(class(9)).is_ok() && lists(graph, class(2), &mut listed, all)
 }
 
-/// Whether a copy keeps what it has where a class is dropped.
+// Whether a copy keeps what it has where a class is dropped.
 fn copy_is_apart(alloc: Global, graph: &mut ClassGraph) -> Option<bool> {
     let copy = graph.copy().ok()?;
     let is_dropped = graph.drop_class(class(3)).is_ok();
@@ -40,7 +40,7 @@ fn graphs_hold(alloc: Global) -> Option<bool> {
     Some(is_filled && copy_is_apart(alloc, &mut graph)?)
 }
 
-/// Whether the name gets this number.
+// Whether the name gets this number.
 fn is_numbered(names: &mut Names, text: &str, number: u32) -> bool {
     Names::is_name(text.as_bytes()) && names.number(text.as_bytes()) == Ok(number)
 }

@@ -1,7 +1,7 @@
 //! Numbers by chance, the same in each run.
 ghost use Rattle.std.specs.Prelude.{◌<◌};
 
-/// Numbers by chance.
+// Numbers by chance.
 #[derive(Debug, Drop)]
 pub(crate) struct Chance {
     state: u64,
@@ -12,7 +12,7 @@ impl Chance {
         Chance { state: 0 }
     }
 
-    /// A number below the limit.
+    // A number below the limit.
     pub(crate) fn below(&mut self, limit: u16) -> u16
         requires { 0 < limit }
         ensures { result < limit }

@@ -16,7 +16,7 @@ pub(crate) fn number(word: &str) -> Option<u16> {
     word.parse::<u16>().ok()
 }
 
-/// The numbers of the words; none where there is no word.
+// The numbers of the words; none where there is no word.
 pub(crate) fn numbers(alloc: Global, words: &str) -> Option<Vec<u16>> {
     let mut listed = Vec::new(alloc);
     for word in words.split_whitespace() {
@@ -25,7 +25,7 @@ pub(crate) fn numbers(alloc: Global, words: &str) -> Option<Vec<u16>> {
     Some(listed)
 }
 
-/// The classes of these numbers.
+// The classes of these numbers.
 pub(crate) fn classes_of(alloc: Global, numbers: &[u16]) -> Option<Vec<ClassNo>> {
     let mut listed = Vec::new(alloc);
     for number in numbers {
@@ -34,7 +34,7 @@ pub(crate) fn classes_of(alloc: Global, numbers: &[u16]) -> Option<Vec<ClassNo>>
     Some(listed)
 }
 
-/// The classes of the numbers that the words are.
+// The classes of the numbers that the words are.
 pub(crate) fn classes(alloc: Global, words: &str) -> Option<Vec<ClassNo>> {
     classes_of(alloc, &numbers(alloc, words)?)
 }
@@ -138,14 +138,14 @@ fn edit_of(alloc: Global, word: &str, numbers: &[u16]) -> Option<Edit> {
     }
 }
 
-/// The edit of these words.
+// The edit of these words.
 pub(crate) fn edit(alloc: Global, words: &str) -> Option<Edit> {
     let (word, rest) = words.split_once(' ').unwrap_or((words, ""));
     let numbers = numbers(alloc, rest)?;
     edit_of(alloc, word, &numbers)
 }
 
-/// Whether the edit is accepted.
+// Whether the edit is accepted.
 pub(crate) fn is_applied(program: &mut Program, edit: &Edit) -> bool {
     program.apply(edit).is_ok()
 }
@@ -157,7 +157,7 @@ fn push(batch: &mut Batch, edit: Edit) -> Option<()> {
     batch.push(edit).ok()
 }
 
-/// The batch of the edits, which are parted by `; `.
+// The batch of the edits, which are parted by `; `.
 pub(crate) fn batch(alloc: Global, words: &str) -> Option<Batch> {
     let mut batch = Batch::new(alloc);
     for words in words.split("; ") {
@@ -166,7 +166,7 @@ pub(crate) fn batch(alloc: Global, words: &str) -> Option<Batch> {
     Some(batch)
 }
 
-/// The cause of this name, with the class of the number behind the name.
+// The cause of this name, with the class of the number behind the name.
 pub(crate) fn cause(words: &str) -> Option<Why> {
     let (name, rest) = words.split_once(' ').unwrap_or((words, "0"));
     let class = class(number(rest)?);

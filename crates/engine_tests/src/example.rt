@@ -4,7 +4,7 @@ use dt_definitions::{Arity, BodyNo, ClassNo, Edit, NoMemory, Parents, Program, S
 use dt_scratch::{Answer, Query, Reply, resolve};
 use std::alloc::Global;
 use std::test::Fail;
-/// How a circle is drawn, where objects are drawn by body 7.
+// How a circle is drawn, where objects are drawn by body 7.
 fn draw_a_circle(alloc: Global) -> Result<Option<Reply>, NoMemory> {
     let (Some(object), Some(circle)) = (ClassNo::new(0), ClassNo::new(1)) else {
         return Ok(None);

@@ -7,7 +7,7 @@ use dt_run::{ArgWords, OpenTurnstile, Status};
 use std::test::Fail;
 use std::thread::Threads;
 
-/// How many bytes a call gives or takes, and the calls that fail, from 1; none where it is 0.
+// How many bytes a call gives or takes, and the calls that fail, from 1; none where it is 0.
 #[derive(Clone, Copy)]
 struct Plan {
     step: u32,
@@ -16,13 +16,13 @@ struct Plan {
     ghost some: { 0 < step },
 }
 
-/// The text up to the put that fails.
+// The text up to the put that fails.
 fn text_before(text: &str, plan: Plan) -> Option<&[u8]> {
     let puts = plan.put.checked_sub(1)?;
     text.as_bytes().get(..puts.checked_mul(plan.step)? as usize)
 }
 
-/// How the run ends, and what the sink takes.
+// How the run ends, and what the sink takes.
 fn wanted(plan: Plan) -> (Status, &'static [u8]) {
     let (status, text) = if plan.read != 0 {
         (Status::ReadFault, "fault read\n")
@@ -45,13 +45,13 @@ fn ends_so<H: Threads + Sync + AllocGlobal>(
     Some(wanted(plan) == (status, sink.bytes()))
 }
 
-/// Whether a run of this plan ends as is wanted.
+// Whether a run of this plan ends as is wanted.
 fn ends<H: Threads + Sync + AllocGlobal>(rt: &H, words: &ArgWords, plan: Plan) -> Option<bool> {
     let mut source = source(rt.alloc(), plan.step, plan.read)?;
     ends_so(rt, words, &mut source, plan)
 }
 
-/// The first of so many reads whose fault isn't told so; 0 where each is.
+// The first of so many reads whose fault isn't told so; 0 where each is.
 fn first_read<H: Threads + Sync + AllocGlobal>(
     rt: &H,
     words: &ArgWords,
@@ -69,7 +69,7 @@ fn first_read<H: Threads + Sync + AllocGlobal>(
     0
 }
 
-/// The first of so many puts whose fault isn't told so; 0 where each is.
+// The first of so many puts whose fault isn't told so; 0 where each is.
 fn first_put<H: Threads + Sync + AllocGlobal>(rt: &H, words: &ArgWords, step: u32, puts: u32) -> u32
     requires { 0 < step }
 {
@@ -82,7 +82,7 @@ fn first_put<H: Threads + Sync + AllocGlobal>(rt: &H, words: &ArgWords, step: u3
     0
 }
 
-/// Whether each of so many reads and puts fails as is wanted, and no later one is made.
+// Whether each of so many reads and puts fails as is wanted, and no later one is made.
 fn each_fails<H: Threads + Sync + AllocGlobal>(
     rt: &H,
     words: &ArgWords,
@@ -97,7 +97,7 @@ fn each_fails<H: Threads + Sync + AllocGlobal>(
         && none_is_late(rt, words, step, reads, puts)
 }
 
-/// Whether a run whose first fault would come after its last call ends well.
+// Whether a run whose first fault would come after its last call ends well.
 fn none_is_late<H: Threads + Sync + AllocGlobal>(
     rt: &H,
     words: &ArgWords,
@@ -123,7 +123,7 @@ fn none_is_late<H: Threads + Sync + AllocGlobal>(
     status == Status::Done && sink.bytes() == REPLIES.as_bytes()
 }
 
-/// Whether both the first read and the first put fail as is wanted.
+// Whether both the first read and the first put fail as is wanted.
 fn both_fail<H: Threads + Sync + AllocGlobal>(rt: &H, words: &ArgWords) -> bool {
     let plan = Plan {
         step: 16,

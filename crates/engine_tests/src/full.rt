@@ -5,7 +5,7 @@ use dt_definitions::{Arity, BodyNo, CLASSES, DEFINITIONS, Edit, Program, Tuple};
 use std::alloc::Global;
 use std::test::Fail;
 
-/// The selectors from 0 to 31 are defined at each class, and those from 32 to 34 aren't.
+// The selectors from 0 to 31 are defined at each class, and those from 32 to 34 aren't.
 const FULL: &str = "define 32 1 0 : 1 definitions-full
 define 32 1 2047 : 1 definitions-full
 define 31 1 2047 : ok

@@ -4,9 +4,9 @@ use dt_definitions::Program;
 use std::alloc::Global;
 use std::test::Fail;
 
-/// In the order of their parts: a class with two below it and one below both, under one selector; the same with a
-/// definition at the lowest, and without one of its links; an undefine; cycles; every refusal; two arguments; drops; the
-/// order of replies; a refused batch; a full class; a copied batch and a copied program.
+// In the order of their parts: a class with two below it and one below both, under one selector; the same with a
+// definition at the lowest, and without one of its links; an undefine; cycles; every refusal; two arguments; drops; the
+// order of replies; a refused batch; a full class; a copied batch and a copied program.
 const ROWS: &str = "begin
 class 0; class 1 0; class 2 0; class 3 1 2; selector 4 1; define 4 10 1; define 4 20 2 : ok
 below 1 : 1 3
@@ -108,8 +108,8 @@ call 4 3 : ambiguous
 unlink 3 1 : ok
 call 4 3 : method 20";
 
-/// A program, and then what changes it; what its copy shows that was made in between; and what it shows itself once the
-/// copy is changed, too.
+// A program, and then what changes it; what its copy shows that was made in between; and what it shows itself once the
+// copy is changed, too.
 const COPIED: &str =
     "class 0; class 1 0; class 2 0; class 3 1 2; selector 5 1; define 5 20 2; define 5 10 1 : ok
 call 5 3 : ambiguous";

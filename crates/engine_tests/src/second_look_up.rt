@@ -9,16 +9,16 @@ use dt_scratch::{Answer, Query, Reply, resolve};
 use std::alloc::Global;
 use std::test::Fail;
 
-/// How many classes a program has.
+// How many classes a program has.
 const CLASSES: u16 = 12;
 
-/// How many definitions come to a program, some in the place of others.
+// How many definitions come to a program, some in the place of others.
 const DEFINITIONS: u16 = 24;
 
-/// How many queries a program gets.
+// How many queries a program gets.
 const QUERIES: u16 = 200;
 
-/// What the links of a program look like.
+// What the links of a program look like.
 #[derive(Clone, Copy, Debug)]
 enum Shape {
     Chain,
@@ -27,8 +27,8 @@ enum Shape {
     Dense,
 }
 
-/// A definition of the selector that takes so many arguments, by the places of its classes. Places that it doesn't take
-/// are 0.
+// A definition of the selector that takes so many arguments, by the places of its classes. Places that it doesn't take
+// are 0.
 #[derive(Clone, Copy, Debug, Default)]
 struct Kept {
     arity: u8,
@@ -36,15 +36,15 @@ struct Kept {
     body: u16,
 }
 
-/// What the second look-up keeps of a program: of each class the set of those at or above it, as bits, and the
-/// definitions.
+// What the second look-up keeps of a program: of each class the set of those at or above it, as bits, and the
+// definitions.
 #[derive(Drop)]
 struct Second {
     above: ArrayVec<u16, 16>,
     definitions: ArrayVec<Kept, 32>,
 }
 
-/// How often each answer came: by a method, by none, and ambiguous.
+// How often each answer came: by a method, by none, and ambiguous.
 #[derive(Clone, Copy, Debug)]
 struct Met {
     methods: u32,
@@ -52,17 +52,17 @@ struct Met {
     ambiguous: u32,
 }
 
-/// The number of the class at this place.
+// The number of the class at this place.
 fn number_of(place: u16) -> u16 {
     place.wrapping_mul(5).wrapping_add(3) % 16
 }
 
-/// The set of this place alone.
+// The set of this place alone.
 fn bit(place: u16) -> u16 {
     1u16.checked_shl(u32::from(place)).unwrap_or(0)
 }
 
-/// Whether the class at a place begins with the one at an earlier place as a parent.
+// Whether the class at a place begins with the one at an earlier place as a parent.
 fn is_parent(shape: Shape, place: u16, earlier: u16, chance: &mut Chance) -> bool {
     let gap = place.wrapping_sub(earlier);
     match shape {
@@ -73,7 +73,7 @@ fn is_parent(shape: Shape, place: u16, earlier: u16, chance: &mut Chance) -> boo
     }
 }
 
-/// The parents with which the class at a place begins, as a set.
+// The parents with which the class at a place begins, as a set.
 fn parents_of(shape: Shape, place: u16, chance: &mut Chance) -> u16 {
     let mut set = 0;
     for earlier in 0..place {
@@ -92,7 +92,7 @@ impl Second {
         }
     }
 
-    /// A class comes with its parents: it is at or above itself, and at or below all that they are.
+    // A class comes with its parents: it is at or above itself, and at or below all that they are.
     fn add_class(&mut self, place: u16, parents: u16) {
         let mut above = bit(place);
         for (earlier, set) in (0..).zip(self.above.as_slice()) {
@@ -103,7 +103,7 @@ impl Second {
         let _ = self.above.try_push(above);
     }
 
-    /// A definition comes, in the place of one at the same classes.
+    // A definition comes, in the place of one at the same classes.
     fn define(&mut self, kept: Kept) {
         for other in self.definitions.as_mut_slice() {
             if other.arity == kept.arity && other.places == kept.places {
@@ -131,7 +131,7 @@ impl Second {
         kept.arity == arity && self.are_at_or_below(places, &kept.places)
     }
 
-    /// How many of the definitions that apply at these places are at or above the low ones.
+    // How many of the definitions that apply at these places are at or above the low ones.
     fn count_above(&self, low: &[u16; 4], arity: u8, places: &[u16; 4]) -> usize {
         self.definitions
             .as_slice()
@@ -141,7 +141,7 @@ impl Second {
             .count()
     }
 
-    /// The definition that applies and is at or below as many of those that apply as there are.
+    // The definition that applies and is at or below as many of those that apply as there are.
     fn lowest(&self, arity: u8, places: &[u16; 4], found: usize) -> Option<u16> {
         for kept in self.definitions.as_slice() {
             if self.applies(kept, arity, places)
@@ -176,8 +176,8 @@ impl Met {
     }
 }
 
-/// So many places, by chance, the others 0: the lower ones where it is for a query, the higher ones where it is for a
-/// definition.
+// So many places, by chance, the others 0: the lower ones where it is for a query, the higher ones where it is for a
+// definition.
 fn some_places(chance: &mut Chance, arity: u8, is_low: bool) -> [u16; 4] {
     let limit = if is_low {
         CLASSES
@@ -197,7 +197,7 @@ fn some_places(chance: &mut Chance, arity: u8, is_low: bool) -> [u16; 4] {
     places
 }
 
-/// The numbers of the classes at so many of these places.
+// The numbers of the classes at so many of these places.
 fn numbers(alloc: Global, places: &[u16; 4], arity: u8) -> Option<Vec<u16>> {
     let mut listed = Vec::new(alloc);
     for place in places.iter().take(usize::from(arity)) {
@@ -206,7 +206,7 @@ fn numbers(alloc: Global, places: &[u16; 4], arity: u8) -> Option<Vec<u16>> {
     Some(listed)
 }
 
-/// The numbers of the classes at the places of this set.
+// The numbers of the classes at the places of this set.
 fn numbers_of_set(alloc: Global, set: u16) -> Option<Vec<u16>> {
     let mut listed = Vec::new(alloc);
     for place in 0..CLASSES {
@@ -240,7 +240,7 @@ fn apply(program: &mut Program, edit: &Edit) -> Option<()> {
     }
 }
 
-/// Classes of this shape come to both.
+// Classes of this shape come to both.
 fn add_classes(
     alloc: Global,
     program: &mut Program,
@@ -256,7 +256,7 @@ fn add_classes(
     Some(())
 }
 
-/// The selectors 1 to 4, each of which takes as many arguments as its number.
+// The selectors 1 to 4, each of which takes as many arguments as its number.
 fn add_selectors(program: &mut Program) -> Option<()> {
     for number in 1..5u8 {
         let arity = Arity::new(number)?;
@@ -266,7 +266,7 @@ fn add_selectors(program: &mut Program) -> Option<()> {
     Some(())
 }
 
-/// Definitions come to both.
+// Definitions come to both.
 fn define_some(
     alloc: Global,
     program: &mut Program,
@@ -287,7 +287,7 @@ fn define_some(
     Some(())
 }
 
-/// Whether both look-ups answer a query alike.
+// Whether both look-ups answer a query alike.
 fn is_alike(
     alloc: Global,
     program: &Program,
@@ -303,7 +303,7 @@ fn is_alike(
     Some(resolve(program, &query) == Reply::Answered { answer })
 }
 
-/// The number of the first query, from 1, that the two look-ups answer otherwise; 0 where there is none.
+// The number of the first query, from 1, that the two look-ups answer otherwise; 0 where there is none.
 fn first_difference(
     alloc: Global,
     program: &Program,
@@ -331,7 +331,7 @@ fn fill(
     define_some(alloc, program, second, chance)
 }
 
-/// Whether both answer alike over a program of this shape.
+// Whether both answer alike over a program of this shape.
 fn agree(alloc: Global, shape: Shape, chance: &mut Chance, met: &mut Met) -> Option<bool> {
     let mut program = Program::new(alloc).ok()?;
     let mut second = Second::new();
@@ -339,7 +339,7 @@ fn agree(alloc: Global, shape: Shape, chance: &mut Chance, met: &mut Met) -> Opt
     Some(first_difference(alloc, &program, &second, chance, met) == 0)
 }
 
-/// The shape of the programs of this number.
+// The shape of the programs of this number.
 fn shape_of(number: u16) -> Shape {
     match number % 4 {
         0 => Shape::Chain,
@@ -349,7 +349,7 @@ fn shape_of(number: u16) -> Shape {
     }
 }
 
-/// The number of the first program over which the two look-ups differ, and how often each answer came.
+// The number of the first program over which the two look-ups differ, and how often each answer came.
 fn first_program(alloc: Global) -> (Option<u16>, Met) {
     let mut chance = Chance::new();
     let mut met = Met {

@@ -6,7 +6,7 @@ use dt_sti::Sti;
 use std::alloc::Global;
 use std::test::Fail;
 
-/// Addresses in one leaf, in another leaf, in another middle node, and the last of all.
+// Addresses in one leaf, in another leaf, in another middle node, and the last of all.
 const PLACES: [(u32, u64); 5] = [
     (0, 7),
     (511, 8),
@@ -15,7 +15,7 @@ const PLACES: [(u32, u64); 5] = [
     (134_217_727, 1),
 ];
 
-/// One more than the last address.
+// One more than the last address.
 const END: u32 = 1 << 27;
 
 fn set(draft: &mut Draft, place: (u32, u64)) -> Option<()> {
@@ -50,7 +50,7 @@ fn words_are_laid(alloc: Global) -> Option<bool> {
     Some(is_laid && PLACES.iter().all(|place| has(&tree, *place)) && has(&tree, (1, 0)))
 }
 
-/// What the first table answers to a query of one class.
+// What the first table answers to a query of one class.
 fn first_reply(alloc: Global) -> Option<Reply> {
     let query = Query::new(0, &[0])?;
     let (_sti, mut tree) = first_table::<Sti>(alloc, 1).ok()?;

@@ -23,7 +23,7 @@ fn counts_steps() {
     two_steps::<Brand>(Blank::new(1));
 }
 
-/// More arguments come after fewer, whatever the classes.
+// More arguments come after fewer, whatever the classes.
 fn queries_have_an_order() -> Option<bool> {
     let more = Query::new(9, &[5, 65_535])?;
     let fewer = Query::new(9, &[6])?;

@@ -4,8 +4,8 @@ use dt_definitions::{Batch, Program, TwoPrograms};
 use std::alloc::Global;
 use std::test::Fail;
 
-/// Each batch of the history, and whether it is accepted. The second undefines and defines in a list that others share,
-/// and changes classes and selectors on the way; the last is itself refused.
+// Each batch of the history, and whether it is accepted. The second undefines and defines in a list that others share,
+// and changes classes and selectors on the way; the last is itself refused.
 const HISTORY: [(&str, bool); 6] = [
     (
         "class 0; class 1 0; class 2 0; class 3 1 2; selector 5 1; define 5 20 2; define 5 10 1",
@@ -38,14 +38,14 @@ fn is_same(one: &Program, other: &Program) -> bool {
         && (0..10).all(|number| has_same_selector(one, other, number))
 }
 
-/// Tries the batch on both, and tells whether both answer alike and come to the same.
+// Tries the batch on both, and tells whether both answer alike and come to the same.
 fn is_tried_alike(two: &mut TwoPrograms, wanted: &mut Program, batch: Batch) -> bool {
     let is_accepted = wanted.apply_batch(&batch).is_ok();
     two.refuse();
     two.try_batch(batch).is_ok() == is_accepted && is_same(two.tried(), wanted)
 }
 
-/// One batch of the history; what stands is this program before it.
+// One batch of the history; what stands is this program before it.
 fn is_alike(
     alloc: Global,
     two: &mut TwoPrograms,
@@ -65,7 +65,7 @@ fn is_alike(
     Some(is_alike && is_same(two.stands(), stands) && is_same(two.tried(), stands))
 }
 
-/// Whether the two never differ, along the history.
+// Whether the two never differ, along the history.
 fn all_alike(alloc: Global, two: &mut TwoPrograms, stands: &mut Program) -> bool {
     for (words, is_accepted) in HISTORY {
         if is_alike(alloc, two, stands, words, is_accepted) != Some(true) {

@@ -8,14 +8,14 @@ use std::sync::atomic::{AtomicU32, Ordering};
 use std::test::Fail;
 use std::thread::Threads;
 
-/// A turnstile that counts the calls of caller 1, where each comes before and after its call, in order.
+// A turnstile that counts the calls of caller 1, where each comes before and after its call, in order.
 #[derive(Drop)]
 struct InOrder {
     passed: AtomicU32,
 }
 
 impl InOrder {
-    /// One more, where so many have come before.
+    // One more, where so many have come before.
     fn pass(&self, caller: u16, before: u32) {
         if caller == 1 && self.passed.load(Ordering::SeqCst) == before {
             self.passed.store(before.wrapping_add(1), Ordering::SeqCst);
@@ -52,7 +52,7 @@ fn runs<H: Threads + Sync + AllocGlobal>(
     is_done(rt, words, &mut source, turnstile)
 }
 
-/// How often the turnstile was passed in order, where the run ended well.
+// How often the turnstile was passed in order, where the run ended well.
 fn passed<H: Threads + Sync + AllocGlobal>(rt: &H) -> Option<u32> {
     let words = words(rt.alloc())?;
     let turnstile = InOrder {
