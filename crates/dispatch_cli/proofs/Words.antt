@@ -1,11 +1,11 @@
 -- The words of the command line decide whether there is a command.
 use Rattle.std.proofs.Common.{◌≡◌, ◌≢◌, ◌↔◌, ◌⊎◌, ◌∙◌, ℕ, List, Option, Result, Ok, Err, Some, None, IfOk, IfSome, MatchResult, [], inl, inr, refl, sym, ap, arith}
-use Rattle.dt_run.specs.Status.{number_of}
-use Rattle.dt_run.specs.Run.{run_words}
-use Rattle.dt_run.specs.Line.{Line}
-use Rattle.dt_run.specs.FirstScript.{IsFirstScript}
-use Rattle.dt_run.specs.declared.status.Status.{Status}
-use Rattle.dt_run.specs.declared.status.Status.TheVariants.{Done, Usage, Script, ReadFault, WriteFault, NoMemory}
+use Rattle.dt_first.specs.Status.{number_of}
+use Rattle.dt_first.specs.Run.{run_words}
+use Rattle.dt_first.specs.Line.{Line}
+use Rattle.dt_first.specs.FirstScript.{IsFirstScript}
+use Rattle.dt_first.specs.declared.status.Status.{Status}
+use Rattle.dt_first.specs.declared.status.Status.TheVariants.{Done, Usage, Script, ReadFault, WriteFault, NoMemory}
 
 -- ---- numbers
 

@@ -1,15 +1,15 @@
 ghost use Rattle.std.specs.Prelude.{◌≡◌, ◌≢◌, ◌<◌, ◌↔◌, ◌⊎◌, ℕ, List, Option, IfOk, IfSome, MatchResult, map, drop, string_bytes};
 ghost use Rattle.std.specs.Vec.Iter.{into_iter_items};
 ghost use Rattle.dt_outside.specs.Faults.{Rose};
-ghost use Rattle.dt_run.specs.Line as line;
-ghost use Rattle.dt_run.specs.FirstScript.{IsFirstScript};
-ghost use Rattle.dt_run.specs.Run.{run_words};
-ghost use Rattle.dt_run.specs.Ending.{outside, EndsAs};
+ghost use Rattle.dt_first.specs.Line as line;
+ghost use Rattle.dt_first.specs.FirstScript.{IsFirstScript};
+ghost use Rattle.dt_first.specs.Run.{run_words};
+ghost use Rattle.dt_first.specs.Ending.{outside, EndsAs};
 
 use crate::command_line::words_of;
 use dt_graph::NoMemory;
-use dt_run::outside::{Sink, Source};
-use dt_run::{OpenTurnstile, Status, run};
+use dt_first::outside::{Sink, Source};
+use dt_first::{OpenTurnstile, Status, run};
 use std::alloc::Global;
 use std::env::Args;
 use std::io;

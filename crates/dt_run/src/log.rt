@@ -18,13 +18,13 @@ pub enum EditLine {
     Accepted { version: u64 },
     /// The edit in this place, from 1, was refused, and so nothing changed.
     Refused { at: u32, why: Why },
-    /// There may be no further version. No run logs it yet.
+    /// There may be no further version.
     VersionsFull,
-    /// The program would have more understood tuples than it may have. No run logs it yet.
+    /// The program would have more understood tuples than it may have.
     CellsFull,
-    /// The program would have more rows than it may have. No run logs it yet.
+    /// The program would have more rows than it may have.
     RowsFull,
-    /// The version would need more pages than are free; both are counted in pages. No run logs it yet.
+    /// The version would need more pages than are free; both are counted in pages.
     NoPages { need: u32, free: u32 },
 }
 
@@ -33,13 +33,13 @@ pub enum EditLine {
 pub enum CallLine {
     /// The call was answered.
     Called { stamped: Stamped },
-    /// The call found as many entries of its version as there may be. No run logs it yet.
+    /// The call found as many entries of its version as there may be.
     CallWorn { entries: u32 },
-    /// The caller keeps this version from here on. No run logs it yet.
+    /// The caller keeps this version from here on.
     PinnedAt { version: u64 },
-    /// The pin found as many entries of its version as there may be. No run logs it yet.
+    /// The pin found as many entries of its version as there may be.
     PinWorn { entries: u32 },
-    /// The caller keeps no version any more. No run logs it yet.
+    /// The caller keeps no version any more.
     Unpinned,
 }
 

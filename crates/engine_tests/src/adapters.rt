@@ -2,8 +2,8 @@
 ghost use Rattle.std.specs.Prelude.{◌<◌};
 
 use crate::running::{OVERRIDE, REPLIES, sink, source, status_of, words};
-use dt_run::outside::{Sink, Source, StdSink, StdSource};
-use dt_run::{ArgWords, OpenTurnstile, Status};
+use dt_first::outside::{Sink, Source, StdSink, StdSource};
+use dt_first::{ArgWords, OpenTurnstile, Status};
 use std::io;
 use std::io::{Read, Write};
 use std::test::Fail;

@@ -2,8 +2,8 @@
 ghost use Rattle.std.specs.Prelude.{◌<◌};
 
 use crate::running::{OVERRIDE, REPLIES, sink, source, status_of, words};
-use dt_run::outside::ListSource;
-use dt_run::{ArgWords, OpenTurnstile, Status};
+use dt_first::outside::ListSource;
+use dt_first::{ArgWords, OpenTurnstile, Status};
 use std::test::Fail;
 use std::thread::Threads;
 

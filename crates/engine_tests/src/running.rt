@@ -1,8 +1,8 @@
 //! A script, the text that it gives, and what runs it.
 ghost use Rattle.std.specs.Prelude.{◌<◌};
 
-use dt_run::outside::{ListSink, ListSource, Sink, Source};
-use dt_run::{ArgWords, Status, Turnstile, run};
+use dt_first::outside::{ListSink, ListSource, Sink, Source};
+use dt_first::{ArgWords, Status, Turnstile, run};
 use std::alloc::Global;
 use std::thread::Threads;
 

@@ -2,8 +2,8 @@
 ghost use Rattle.std.specs.Prelude.{◌<◌};
 
 use crate::running::{sink, source, status_of, words};
-use dt_run::outside::ListSource;
-use dt_run::{ArgWords, Status, Turnstile};
+use dt_first::outside::ListSource;
+use dt_first::{ArgWords, Status, Turnstile};
 use std::sync::atomic::{AtomicU32, Ordering};
 use std::test::Fail;
 use std::thread::Threads;

@@ -1,6 +1,6 @@
 use Rattle.std.proofs.Common.{◌≡◌, ◌∙◌, ap, inl, inr, refl}
-use Rattle.dt_run.specs.Status.{number_of}
-use Rattle.dt_run.specs.declared.status.Status.TheVariants.{NoMemory}
+use Rattle.dt_first.specs.Status.{number_of}
+use Rattle.dt_first.specs.declared.status.Status.TheVariants.{NoMemory}
 use Rattle.dispatch_cli.proofs.Words.{words_decide, where_words, whatever_words, whatever_bytes, numbers_end}
 use Rattle.dispatch_cli.proofs.program.exit_status.Goals.{in-Ok, in-Err}
 use Rattle.dispatch_cli.proofs.program.exit_status.Goals as goal
