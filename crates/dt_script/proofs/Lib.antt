@@ -7,3 +7,4 @@ pub mod Tokens
 pub mod LineMade
 pub mod Joined
 pub mod SpellingLaws
+pub mod CallerBits

@@ -17,4 +17,5 @@ pub mod Written
 pub mod WrittenLine
 pub mod NumberedLine
 pub mod Writing
+pub mod CallerSet
 pub mod Laws

@@ -1,7 +1,10 @@
 -- Where a line of a script may stand: what is asked of the lines before it, which are given latest first.
-use Rattle.std.specs.Prelude.{◌==◌, ℕ, Bool, true, false, ◌&&◌, not, nat_le, if◌then◌else◌, is_none, is_some, List, [], ◌∷◌, Option, None, Some}
+use Rattle.std.specs.Prelude.{◌≡◌, ◌==◌, ◌≤◌, ℕ, Bool, true, false, ◌&&◌, not, nat_le, if◌then◌else◌, is_none, is_some, List, [], ◌∷◌, Option, None, Some}
+use Rattle.dt_script.specs.CallerSet.{has_caller}
+use Rattle.dt_script.specs.declared.limits.TheConstants.{CALLERS}
 use Rattle.dt_script.specs.declared.line.Line.{Line}
 use Rattle.dt_script.specs.declared.line.Line.TheVariants.{Header, Begin, Commit, Phase, Caller, Call, Pin, Unpin, End}
+use Rattle.dt_script.specs.declared.place.Places.{Places}
 
 -- whether a batch is open: the latest `begin` has no `commit` after it
 abbrev pub is_in_batch : List Line → Bool
@@ -72,3 +75,12 @@ may_follow readers past _ = is_none (caller_after past)
 -- whether a line may stand after these lines, in a script for so many readers
 abbrev pub may_stand : ℕ → List Line → Line → Bool
 may_stand readers past line = not (has_ended past) && may_follow readers past line
+
+-- What is kept of the lines `past` says of them all that the rules ask, for callers up to the greatest.
+pub record StandsAfter (places : Places) (past : List Line) : Type 0 where
+  pub first : places.is_first ≡ is_first past
+  pub batch : places.in_batch ≡ is_in_batch past
+  pub current : places.callers.current ≡ caller_after past
+  pub stood : (caller : ℕ) → caller ≤ CALLERS → has_caller places.callers.stood caller ≡ has_stood caller past
+  pub pinned : (caller : ℕ) → caller ≤ CALLERS → has_caller places.callers.pinned caller ≡ is_pinned caller past
+  pub ended : places.ended ≡ has_ended past

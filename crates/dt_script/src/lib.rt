@@ -1,6 +1,8 @@
 //! Scripts: lines of text, what each means, where each may stand, and the names that they number.
 #![tactic(auto)]
 
+mod caller_set;
+mod callers;
 mod cut;
 mod keyword;
 mod laws;
@@ -10,6 +12,7 @@ mod line_read;
 mod name_book;
 mod numbered_line;
 mod numbering;
+mod place;
 mod script;
 mod script_fault;
 mod words;
