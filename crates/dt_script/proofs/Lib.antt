@@ -8,3 +8,4 @@ pub mod LineMade
 pub mod Joined
 pub mod SpellingLaws
 pub mod CallerBits
+pub mod InTurn

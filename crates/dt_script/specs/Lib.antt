@@ -9,6 +9,8 @@ pub mod Script
 pub mod ScriptExamples
 pub mod ScriptOf
 pub mod ScriptOfExamples
+pub mod Playable
+pub mod PlayableExamples
 pub mod Cut
 pub mod Words
 pub mod Keyword
