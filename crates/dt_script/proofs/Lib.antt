@@ -9,3 +9,4 @@ pub mod Joined
 pub mod SpellingLaws
 pub mod CallerBits
 pub mod InTurn
+pub mod NamedScript

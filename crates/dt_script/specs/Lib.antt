@@ -7,6 +7,7 @@ pub mod Place
 pub mod PlaceExamples
 pub mod Script
 pub mod ScriptExamples
+pub mod Named
 pub mod ScriptOf
 pub mod ScriptOfExamples
 pub mod Playable

@@ -1,0 +1,34 @@
+-- That numbers have names: the names of a script are those of all its lines.
+use Rattle.std.specs.Prelude.{Bool, IsTrue, is_some, All}
+use Rattle.std.specs.List.{list_all}
+use Rattle.dt_definitions.specs.declared.edit.Edit.{Edit}
+use Rattle.dt_definitions.specs.declared.edit.Edit.TheVariants as edit
+use Rattle.dt_script.specs.NameBook.{NameBook}
+use Rattle.dt_script.specs.Word.{Word, text_of_word}
+use Rattle.dt_script.specs.Line.{words_of}
+use Rattle.dt_script.specs.Script.{Script}
+use Rattle.dt_script.specs.declared.line.Line.{Line}
+use Rattle.dt_script.specs.declared.line.Line.TheVariants.{AddClass, DropClass, Link, Unlink, AddSelector, DropSelector, Define, Undefine}
+
+-- whether a word stands for itself, or is the number of a name
+abbrev pub has_text : NameBook → Word → Bool
+has_text book word = is_some (text_of_word book word)
+
+-- the line that an edit is
+abbrev pub line_of : Edit → Line
+line_of (edit.AddClass class parents) = AddClass class parents
+line_of (edit.DropClass class) = DropClass class
+line_of (edit.Link class parent) = Link class parent
+line_of (edit.Unlink class parent) = Unlink class parent
+line_of (edit.AddSelector selector arity) = AddSelector selector arity
+line_of (edit.DropSelector selector) = DropSelector selector
+line_of (edit.Define selector classes body) = Define selector classes body
+line_of (edit.Undefine selector classes) = Undefine selector classes
+
+-- whether each number in an edit is that of a name
+abbrev pub is_edit_named : NameBook → Edit → Bool
+is_edit_named book edit = list_all (has_text book) (words_of (line_of edit))
+
+-- each number in the edits of a script is that of a name
+abbrev pub HasNames : Script → Type 0
+HasNames script = All (λ phase. All (All (λ edit. IsTrue (is_edit_named script.names edit))) phase.edits) script.phases
