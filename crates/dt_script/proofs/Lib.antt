@@ -6,6 +6,11 @@ pub mod HandedOn
 pub mod Tokens
 pub mod LineMade
 pub mod Joined
+pub mod SameLine
+pub mod SameKinds
+pub mod LawfulBooks
+pub mod FitLines
+pub mod LineLaws
 pub mod SpellingLaws
 pub mod CallerBits
 pub mod InTurn

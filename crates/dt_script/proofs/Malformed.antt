@@ -41,7 +41,7 @@ pub parts-words : (word : List ℕ) (words : List (List ℕ)) → IsTrue (list_a
 parts-words word words are = parts-join 32 word words (names-free 32 (lit< tt) (word ∷ words) are)
 
 -- the first word of a line
-abbrev first_of : Line → Keyword
+abbrev pub first_of : Line → Keyword
 first_of Header = keyword.Dispatch
 first_of (AddClass class parents) = keyword.Class
 first_of (DropClass class) = keyword.Drop
@@ -234,7 +234,7 @@ from-text keyword.Pin = refl
 from-text keyword.Unpin = refl
 from-text keyword.End = refl
 
-same_keyword : (a b : Keyword) → text_of_keyword a ≡ text_of_keyword b → a ≡ b
+pub same_keyword : (a b : Keyword) → text_of_keyword a ≡ text_of_keyword b → a ≡ b
 same_keyword a b same = some (sym (from-text a) ∙ ap keyword_from same ∙ from-text b)
 
 -- where what follows the first word may not, there is no line

@@ -1,4 +1,6 @@
 pub mod NameBook
+pub mod LawfulBook
+pub mod LawfulBookExamples
 pub mod Word
 pub mod Line
 pub mod LineExamples

@@ -1,5 +1,5 @@
 -- What a line of a script means: the words of each kind of line, and the relation of a line's bytes to the line.
-use Rattle.std.specs.Prelude.{◌≡◌, ℕ, Bool, true, ◌&&◌, IsTrue, nat_le, List, [], ◌∷◌, ◌++◌, map, length, codes}
+use Rattle.std.specs.Prelude.{◌≡◌, ℕ, Bool, true, ◌&&◌, IsTrue, nat_le, nat_lt, List, [], ◌∷◌, ◌++◌, map, length, codes}
 use Rattle.std.specs.List.{join_with_byte, list_all}
 use Rattle.dt_selectors.specs.Names.{is_name}
 use Rattle.dt_script.specs.NameBook.{NameBook}
@@ -43,6 +43,12 @@ is_in_range (Undefine selector classes) = is_from_one_to 4 (length classes)
 is_in_range (Caller caller) = is_from_one_to CALLERS caller
 is_in_range (Call query) = is_from_one_to 4 (length query.classes)
 is_in_range _ = true
+
+-- whether the line's numbers that are no names have at most 16 bits, as those of every line that is made have
+abbrev pub is_short : Line → Bool
+is_short (AddSelector selector arity) = nat_lt arity 65536
+is_short (Caller caller) = nat_lt caller 65536
+is_short _ = true
 
 -- The bytes are a line: its words with one space between two, each name by its number in the book after the line, in
 -- which the names that are new were numbered from left to right.

@@ -3,7 +3,7 @@ use Rattle.std.specs.Prelude.{◌≡◌, ℕ, List, [], ◌∷◌, codes, true, 
 use Rattle.std.specs.Fmt.{digits}
 use Rattle.dt_script.specs.NameBook.{NameBook, empty_book}
 use Rattle.dt_script.specs.Word.{AreTexts}
-use Rattle.dt_script.specs.Line.{words_of, is_in_range, LineOf}
+use Rattle.dt_script.specs.Line.{words_of, is_in_range, is_short, LineOf}
 use Rattle.dt_script.specs.declared.line.Line.TheVariants.{Header, AddClass, DropClass, AddSelector, Define, Undefine, Begin, Caller, Call, End}
 
 -- the book with some names of classes, and one with a name of each kind
@@ -99,6 +99,13 @@ five_classes = refl
 
 five_arguments : is_in_range (AddSelector 0 5) ≡ false
 five_arguments = refl
+
+-- callers have 16 bits
+greatest_caller_of_16_bits : is_short (Caller 65535) ≡ true
+greatest_caller_of_16_bits = refl
+
+caller_of_17_bits : is_short (Caller 65536) ≡ false
+caller_of_17_bits = refl
 
 -- the empty line has no meaning, and neither has a word that is none
 no_text_of_no_words : AreTexts empty_book (words_of End) [] → ⊥

@@ -1,4 +1,6 @@
-ghost use Rattle.dt_script.specs.Laws.{OneSpelling, ReadFromSpelling, WrittenAsRead};
+ghost use Rattle.dt_script.specs.Laws.{OneSpelling, ReadFromSpelling, WrittenAsRead, NoTwoLines, OneMeaning, StaysLawful, ReadAsWritten};
+
+use dt_selectors::names_keep_their_numbers;
 
 /// A line has one spelling in a book, and what a line was read from is its spelling in the book after it, so that it is
 /// written as it was read. It does nothing: its contract is the law.
@@ -7,3 +9,21 @@ pub fn lines_have_one_spelling()
     ensures read { ReadFromSpelling }
     ensures written { WrittenAsRead }
 {}
+
+/// No two lines have one spelling in a book, and bytes mean one line at most after given names. It does nothing: its
+/// contract is the law.
+pub fn spellings_have_one_line()
+    ensures line { NoTwoLines }
+    ensures meaning { OneMeaning }
+{
+    names_keep_their_numbers();
+}
+
+/// What a line is spelled as in a book is this line again, and the book stays; after any line a lawful book is lawful. It
+/// does nothing: its contract is the law.
+pub fn written_lines_are_read_again()
+    ensures again { ReadAsWritten }
+    ensures lawful { StaysLawful }
+{
+    names_keep_their_numbers();
+}

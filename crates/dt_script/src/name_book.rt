@@ -1,6 +1,7 @@
 ghost use Rattle.std.specs.Prelude.{◌≡◌, ◌↔◌, ◌<◌, IsTrue, IfOk, OnOk, OnErr, IsErrOf, is_none, nat_le, ◌&&◌, length, slice_get};
 ghost use Rattle.std.specs.Option.{option_copied};
 ghost use Rattle.dt_selectors.specs.Names.{is_name, place_of};
+ghost use Rattle.dt_script.specs.LawfulBook.{LawfulBook};
 ghost use Rattle.dt_script.specs.NameBook.{empty_book, is_within_limits, with_class, with_selector, with_body, number_in};
 
 use dt_definitions::{BODIES, BodyNo, CLASSES, ClassNo, NoMemory, SELECTORS, SelNo};
@@ -43,7 +44,8 @@ impl NameBook {
 
     /// What holds of every book. It does nothing: a caller whose reasoning needs this calls it.
     pub fn law(&self)
-        ensures { IsTrue (is_within_limits self.now) }
+        ensures fits { IsTrue (is_within_limits self.now) }
+        ensures lawful { LawfulBook self.now }
     {
         self.classes.law();
         self.selectors.law();
