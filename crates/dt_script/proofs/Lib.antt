@@ -6,6 +6,7 @@ pub mod HandedOn
 pub mod Tokens
 pub mod LineMade
 pub mod Joined
+pub mod Grown
 pub mod SameLine
 pub mod SameKinds
 pub mod LawfulBooks

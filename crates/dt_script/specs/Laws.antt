@@ -2,6 +2,7 @@
 use Rattle.std.specs.Prelude.{◌≡◌, ℕ, IsTrue, List}
 use Rattle.dt_script.specs.NameBook.{NameBook}
 use Rattle.dt_script.specs.LawfulBook.{LawfulBook}
+use Rattle.dt_script.specs.Growth.{GrewAtEnd}
 use Rattle.dt_script.specs.Line.{LineOf, is_in_range, is_short}
 use Rattle.dt_script.specs.Writing.{IsSpelling}
 use Rattle.dt_script.specs.declared.line.Line.{Line}
@@ -38,3 +39,15 @@ StaysLawful = (bytes : List ℕ) (before after : NameBook) (line : Line) → Law
 abbrev pub ReadAsWritten : Type 0
 ReadAsWritten = (book : NameBook) (line : Line) (text : List ℕ) → LawfulBook book → IsTrue (is_in_range line)
     → IsSpelling book line text → LineOf text book line book
+
+-- A book grows at its end by the names of a line.
+abbrev pub GrowsByLine : Type 0
+GrowsByLine = (bytes : List ℕ) (before after : NameBook) (line : Line) → LineOf bytes before line after → GrewAtEnd before after
+
+-- What grew twice grew.
+abbrev pub GrowsOn : Type 0
+GrowsOn = (first second third : NameBook) → GrewAtEnd first second → GrewAtEnd second third → GrewAtEnd first third
+
+-- A line is spelled as before in a book that grew.
+abbrev pub SpellingStays : Type 0
+SpellingStays = (before after : NameBook) (line : Line) (text : List ℕ) → GrewAtEnd before after → IsSpelling before line text → IsSpelling after line text

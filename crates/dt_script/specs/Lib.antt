@@ -1,6 +1,7 @@
 pub mod NameBook
 pub mod LawfulBook
 pub mod LawfulBookExamples
+pub mod Growth
 pub mod Word
 pub mod Line
 pub mod LineExamples

@@ -1,4 +1,4 @@
-ghost use Rattle.dt_script.specs.Laws.{OneSpelling, ReadFromSpelling, WrittenAsRead, NoTwoLines, OneMeaning, StaysLawful, ReadAsWritten};
+ghost use Rattle.dt_script.specs.Laws.{OneSpelling, ReadFromSpelling, WrittenAsRead, NoTwoLines, OneMeaning, StaysLawful, ReadAsWritten, GrowsByLine, GrowsOn, SpellingStays};
 
 use dt_selectors::names_keep_their_numbers;
 
@@ -27,3 +27,11 @@ pub fn written_lines_are_read_again()
 {
     names_keep_their_numbers();
 }
+
+/// A line adds names at the end of a book, and in a book that grew so each line is spelled as before. It does nothing: its
+/// contract is the law.
+pub fn names_keep_their_spellings()
+    ensures line { GrowsByLine }
+    ensures on { GrowsOn }
+    ensures spelling { SpellingStays }
+{}

@@ -21,7 +21,10 @@ mod writing;
 mod written;
 mod written_line;
 
-pub use laws::{lines_have_one_spelling, spellings_have_one_line, written_lines_are_read_again};
+pub use laws::{
+    lines_have_one_spelling, names_keep_their_spellings, spellings_have_one_line,
+    written_lines_are_read_again,
+};
 pub use limits::SCRIPT_BYTES;
 pub use line::{CallerLine, Line};
 pub use line_read::{LineFault, read_line};

@@ -1,6 +1,7 @@
 ghost use Rattle.std.specs.Prelude.{◌≡◌, ◌↔◌, not, IsTrue, Ok, Err, None, IfOk, IfSome, IsErrOf};
 ghost use Rattle.dt_script.specs.NameBook as book;
 ghost use Rattle.dt_script.specs.NameBook.{is_within_limits};
+ghost use Rattle.dt_script.specs.Growth.{GrewAtEnd};
 ghost use Rattle.dt_script.specs.Line.{LineOf};
 ghost use Rattle.dt_script.specs.Lines.{is_silent};
 
@@ -27,7 +28,8 @@ pub enum LineFault {
 }
 
 /// The line that is spelled so, without its line feed; `None` exactly for a line that means nothing: an empty one, or one
-/// that begins with `#`. New names are numbered from left to right. It takes memory.
+/// that begins with `#`. New names are numbered from left to right, after those before, which keep their numbers whatever
+/// the answer. It takes memory.
 ///
 /// The cost grows with the bytes, and with one hash a name.
 ///
@@ -50,6 +52,7 @@ pub fn read_line(
     ensures malformed_names { IsErrOf result LineFault.Malformed → names.new ≡ names.old }
     ensures full { IsErrOf result LineFault.NamesFull → (line : Line) × (after : book.NameBook)
         × LineOf bytes.now names.old line after × IsTrue (not (is_within_limits after)) }
+    ensures grew { GrewAtEnd names.old names.new }
 {
     names.law();
     if is_silent(bytes) {

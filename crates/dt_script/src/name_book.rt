@@ -1,6 +1,7 @@
 ghost use Rattle.std.specs.Prelude.{◌≡◌, ◌↔◌, ◌<◌, IsTrue, IfOk, OnOk, OnErr, IsErrOf, is_none, nat_le, ◌&&◌, length, slice_get};
 ghost use Rattle.std.specs.Option.{option_copied};
 ghost use Rattle.dt_selectors.specs.Names.{is_name, place_of};
+ghost use Rattle.dt_script.specs.Growth.{GrewAtEnd};
 ghost use Rattle.dt_script.specs.LawfulBook.{LawfulBook};
 ghost use Rattle.dt_script.specs.NameBook.{empty_book, is_within_limits, with_class, with_selector, with_body, number_in};
 
@@ -63,6 +64,7 @@ impl NameBook {
         ensures full { IsErrOf result NameFault.NamesFull
             ↔ IsTrue (is_none (place_of name.now self.old.classes) && nat_le CLASSES (length self.old.classes)) }
         ensures err { OnErr result (self.new ≡ self.old) }
+        ensures grew { GrewAtEnd self.old self.new }
     {
         let number = self.classes.number(name)?;
         match ClassNo::new(number as u16) {
@@ -82,6 +84,7 @@ impl NameBook {
         ensures full { IsErrOf result NameFault.NamesFull
             ↔ IsTrue (is_none (place_of name.now self.old.selectors) && nat_le SELECTORS (length self.old.selectors)) }
         ensures err { OnErr result (self.new ≡ self.old) }
+        ensures grew { GrewAtEnd self.old self.new }
     {
         let number = self.selectors.number(name)?;
         match SelNo::new(number as u16) {
@@ -101,6 +104,7 @@ impl NameBook {
         ensures full { IsErrOf result NameFault.NamesFull
             ↔ IsTrue (is_none (place_of name.now self.old.bodies) && nat_le BODIES (length self.old.bodies)) }
         ensures err { OnErr result (self.new ≡ self.old) }
+        ensures grew { GrewAtEnd self.old self.new }
     {
         let number = self.bodies.number(name)?;
         Ok(BodyNo::new(number as u16))

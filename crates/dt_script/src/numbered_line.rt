@@ -2,6 +2,7 @@ ghost use Rattle.std.specs.Prelude.{◌≡◌, IsTrue};
 ghost use Rattle.std.specs.List.{list_all};
 ghost use Rattle.dt_selectors.specs.Names.{is_name};
 ghost use Rattle.dt_script.specs.Cut.{parts_at};
+ghost use Rattle.dt_script.specs.Growth.{GrewAtEnd};
 ghost use Rattle.dt_script.specs.NameBook.{is_within_limits};
 ghost use Rattle.dt_script.specs.Written.{texts_of, texts_of_classes};
 ghost use Rattle.dt_script.specs.NumberedLine.{IsLineNumbered};
@@ -24,6 +25,7 @@ pub fn number_line(
 ) -> Result<Line, NameFault>
     requires { IsTrue (list_all is_name (texts_of line.now)) }
     ensures numbered { IsLineNumbered names.old line.now result names.new }
+    ensures grew { GrewAtEnd names.old names.new }
     ensures fits { IsTrue (is_within_limits names.new) }
 {
     let numbered = line_by_kind(alloc, names, line);
@@ -34,7 +36,8 @@ pub fn number_line(
 // The line of each kind with the numbers of its names.
 fn line_by_kind(alloc: Global, names: &mut NameBook, line: &Written<'_>) -> Result<Line, NameFault>
     requires { IsTrue (list_all is_name (texts_of line.now)) }
-    ensures { IsLineNumbered names.old line.now result names.new }
+    ensures numbered { IsLineNumbered names.old line.now result names.new }
+    ensures grew { GrewAtEnd names.old names.new }
 {
     match line {
         Written::Header => Ok(Line::Header),
@@ -65,7 +68,8 @@ fn line_by_kind(alloc: Global, names: &mut NameBook, line: &Written<'_>) -> Resu
 // The line of a class that goes.
 fn drop_line(names: &mut NameBook, class: &[u8]) -> Result<Line, NameFault>
     requires { IsTrue (is_name class.now) }
-    ensures { IsLineNumbered names.old (written.DropClass class.entry) result names.new }
+    ensures numbered { IsLineNumbered names.old (written.DropClass class.entry) result names.new }
+    ensures grew { GrewAtEnd names.old names.new }
 {
     let class = names.class(class)?;
     Ok(Line::DropClass { class })
@@ -75,7 +79,8 @@ fn drop_line(names: &mut NameBook, class: &[u8]) -> Result<Line, NameFault>
 fn link_line(names: &mut NameBook, class: &[u8], parent: &[u8]) -> Result<Line, NameFault>
     requires class { IsTrue (is_name class.now) }
     requires parent { IsTrue (is_name parent.now) }
-    ensures { IsLineNumbered names.old (written.Link class.entry parent.entry) result names.new }
+    ensures numbered { IsLineNumbered names.old (written.Link class.entry parent.entry) result names.new }
+    ensures grew { GrewAtEnd names.old names.new }
 {
     let (class, parent) = number_two(names, class, parent)?;
     Ok(Line::Link { class, parent })
@@ -85,7 +90,8 @@ fn link_line(names: &mut NameBook, class: &[u8], parent: &[u8]) -> Result<Line, 
 fn unlink_line(names: &mut NameBook, class: &[u8], parent: &[u8]) -> Result<Line, NameFault>
     requires class { IsTrue (is_name class.now) }
     requires parent { IsTrue (is_name parent.now) }
-    ensures { IsLineNumbered names.old (written.Unlink class.entry parent.entry) result names.new }
+    ensures numbered { IsLineNumbered names.old (written.Unlink class.entry parent.entry) result names.new }
+    ensures grew { GrewAtEnd names.old names.new }
 {
     let (class, parent) = number_two(names, class, parent)?;
     Ok(Line::Unlink { class, parent })
@@ -94,7 +100,8 @@ fn unlink_line(names: &mut NameBook, class: &[u8], parent: &[u8]) -> Result<Line
 // The line of a new selector.
 fn selector_line(names: &mut NameBook, selector: &[u8], arity: Arity) -> Result<Line, NameFault>
     requires { IsTrue (is_name selector.now) }
-    ensures { IsLineNumbered names.old (written.AddSelector selector.entry arity) result names.new }
+    ensures numbered { IsLineNumbered names.old (written.AddSelector selector.entry arity) result names.new }
+    ensures grew { GrewAtEnd names.old names.new }
 {
     let selector = names.selector(selector)?;
     Ok(Line::AddSelector { selector, arity })
@@ -103,7 +110,8 @@ fn selector_line(names: &mut NameBook, selector: &[u8], arity: Arity) -> Result<
 // The line of a selector that goes.
 fn forget_line(names: &mut NameBook, selector: &[u8]) -> Result<Line, NameFault>
     requires { IsTrue (is_name selector.now) }
-    ensures { IsLineNumbered names.old (written.DropSelector selector.entry) result names.new }
+    ensures numbered { IsLineNumbered names.old (written.DropSelector selector.entry) result names.new }
+    ensures grew { GrewAtEnd names.old names.new }
 {
     let selector = names.selector(selector)?;
     Ok(Line::DropSelector { selector })
@@ -117,7 +125,8 @@ fn undefine_line(
 ) -> Result<Line, NameFault>
     requires selector { IsTrue (is_name selector.now) }
     requires classes { IsTrue (list_all is_name (texts_of_classes classes)) }
-    ensures { IsLineNumbered names.old (written.Undefine selector.entry classes.entry) result names.new }
+    ensures numbered { IsLineNumbered names.old (written.Undefine selector.entry classes.entry) result names.new }
+    ensures grew { GrewAtEnd names.old names.new }
 {
     let selector = names.selector(selector)?;
     let classes = number_classes(names, classes)?;
@@ -128,7 +137,8 @@ fn undefine_line(
 fn call_line(names: &mut NameBook, selector: &[u8], classes: Classes<'_>) -> Result<Line, NameFault>
     requires selector { IsTrue (is_name selector.now) }
     requires classes { IsTrue (list_all is_name (texts_of_classes classes)) }
-    ensures { IsLineNumbered names.old (written.Call selector.entry classes.entry) result names.new }
+    ensures numbered { IsLineNumbered names.old (written.Call selector.entry classes.entry) result names.new }
+    ensures grew { GrewAtEnd names.old names.new }
 {
     let selector = names.selector(selector)?;
     let classes = number_classes(names, classes)?;
@@ -166,7 +176,8 @@ fn define_line(
     requires selector { IsTrue (is_name selector.now) }
     requires classes { IsTrue (list_all is_name (texts_of_classes classes)) }
     requires body { IsTrue (is_name body.now) }
-    ensures { IsLineNumbered names.old (written.Define selector.entry classes.entry body.entry) result names.new }
+    ensures numbered { IsLineNumbered names.old (written.Define selector.entry classes.entry body.entry) result names.new }
+    ensures grew { GrewAtEnd names.old names.new }
 {
     let selector = names.selector(selector)?;
     let classes = number_classes(names, classes)?;
@@ -181,7 +192,8 @@ fn define_line(
 // The line of a new class without parents.
 fn class_line(alloc: Global, names: &mut NameBook, class: &[u8]) -> Result<Line, NameFault>
     requires { IsTrue (is_name class.now) }
-    ensures { IsLineNumbered names.old (written.AddClass class.entry) result names.new }
+    ensures numbered { IsLineNumbered names.old (written.AddClass class.entry) result names.new }
+    ensures grew { GrewAtEnd names.old names.new }
 {
     let class = names.class(class)?;
     match Parents::new(alloc, &[]) {
@@ -199,7 +211,8 @@ fn subclass_line(
 ) -> Result<Line, NameFault>
     requires class { IsTrue (is_name class.now) }
     requires parents { IsTrue (list_all is_name (parts_at 32 parents.now)) }
-    ensures { IsLineNumbered names.old (written.AddSubclass class.entry parents.entry) result names.new }
+    ensures numbered { IsLineNumbered names.old (written.AddSubclass class.entry parents.entry) result names.new }
+    ensures grew { GrewAtEnd names.old names.new }
 {
     let class = names.class(class)?;
     let parents = number_parents(alloc, names, Some(parents))?;

@@ -3,6 +3,7 @@ ghost use Rattle.std.specs.List.{list_all};
 ghost use Rattle.std.specs.Option.{option_copied};
 ghost use Rattle.dt_selectors.specs.Names.{is_name};
 ghost use Rattle.dt_script.specs.NameBook.{is_within_limits, number_in, with_class};
+ghost use Rattle.dt_script.specs.Growth.{GrewAtEnd};
 ghost use Rattle.dt_script.specs.Words.{words_left};
 ghost use Rattle.dt_script.specs.Numbering.{with_classes, numbers_in, IsNumbered};
 ghost use Rattle.dt_script.specs.Written.{texts_of_classes};
@@ -27,6 +28,7 @@ pub fn number_two(
     ensures second { IfOk result (λ numbers. numbers.1 ≡ number_in names.new.classes second.now) }
     ensures full { IsErrOf result NameFault.NamesFull
         → IsTrue (not (is_within_limits (with_class (with_class names.old first.now) second.now))) }
+    ensures grew { GrewAtEnd names.old names.new }
 {
     let first = names.class(first)?;
     let second = names.class(second)?;
@@ -36,7 +38,8 @@ pub fn number_two(
 /// The numbers of one to four classes.
 pub fn number_classes(names: &mut NameBook, classes: Classes<'_>) -> Result<Tuple, NameFault>
     requires { IsTrue (list_all is_name (texts_of_classes classes)) }
-    ensures { IsNumbered names.old (texts_of_classes classes.entry) result names.new }
+    ensures numbered { IsNumbered names.old (texts_of_classes classes.entry) result names.new }
+    ensures grew { GrewAtEnd names.old names.new }
 {
     match classes {
         Classes::One(a) => one_class(names, a),
@@ -60,7 +63,8 @@ fn tuple_of(classes: &[ClassNo]) -> Tuple
 // The number of one class.
 fn one_class(names: &mut NameBook, a: &[u8]) -> Result<Tuple, NameFault>
     requires { IsTrue (is_name a.now) }
-    ensures { IsNumbered names.old (a.now ∷ []) result names.new }
+    ensures numbered { IsNumbered names.old (a.now ∷ []) result names.new }
+    ensures grew { GrewAtEnd names.old names.new }
 {
     let a = names.class(a)?;
     Ok(tuple_of(&[a]))
@@ -70,7 +74,8 @@ fn one_class(names: &mut NameBook, a: &[u8]) -> Result<Tuple, NameFault>
 fn two_classes(names: &mut NameBook, a: &[u8], b: &[u8]) -> Result<Tuple, NameFault>
     requires a { IsTrue (is_name a.now) }
     requires b { IsTrue (is_name b.now) }
-    ensures { IsNumbered names.old (a.now ∷ b.now ∷ []) result names.new }
+    ensures numbered { IsNumbered names.old (a.now ∷ b.now ∷ []) result names.new }
+    ensures grew { GrewAtEnd names.old names.new }
 {
     let (a, b) = number_two(names, a, b)?;
     Ok(tuple_of(&[a, b]))
@@ -81,7 +86,8 @@ fn three_classes(names: &mut NameBook, a: &[u8], b: &[u8], c: &[u8]) -> Result<T
     requires a { IsTrue (is_name a.now) }
     requires b { IsTrue (is_name b.now) }
     requires c { IsTrue (is_name c.now) }
-    ensures { IsNumbered names.old (a.now ∷ b.now ∷ c.now ∷ []) result names.new }
+    ensures numbered { IsNumbered names.old (a.now ∷ b.now ∷ c.now ∷ []) result names.new }
+    ensures grew { GrewAtEnd names.old names.new }
 {
     let (a, b) = number_two(names, a, b)?;
     let c = names.class(c)?;
@@ -100,7 +106,8 @@ fn four_classes(
     requires b { IsTrue (is_name b.now) }
     requires c { IsTrue (is_name c.now) }
     requires d { IsTrue (is_name d.now) }
-    ensures { IsNumbered names.old (a.now ∷ b.now ∷ c.now ∷ d.now ∷ []) result names.new }
+    ensures numbered { IsNumbered names.old (a.now ∷ b.now ∷ c.now ∷ d.now ∷ []) result names.new }
+    ensures grew { GrewAtEnd names.old names.new }
 {
     let (a, b) = number_two(names, a, b)?;
     let (c, d) = number_two(names, c, d)?;
@@ -108,6 +115,7 @@ fn four_classes(
 }
 
 /// Numbers the classes that are left of a line, in their order.
+#[tactic(auto, using(crate::proofs::Grown::grew_on))]
 pub fn number_parents(
     alloc: Global,
     names: &mut NameBook,
@@ -118,6 +126,7 @@ pub fn number_parents(
     ensures numbers { IfOk result (λ parents. parents.items ≡ numbers_in names.new (words_left (option_copied words.entry))) }
     ensures full { IsErrOf result NameFault.NamesFull
         → IsTrue (not (is_within_limits (with_classes names.old (words_left (option_copied words.entry))))) }
+    ensures grew { GrewAtEnd names.old names.new }
 {
     let mut parents = Vec::new(alloc);
     let mut left = words;

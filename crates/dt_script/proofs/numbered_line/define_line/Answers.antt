@@ -4,18 +4,18 @@ use Rattle.dt_script.specs.declared.written.Written.TheVariants as written
 use Rattle.dt_script.proofs.Tokens.{define_classes_full, define_body_full, numbered_full, handed_line, full_selector}
 use Rattle.dt_script.proofs.numbered_line.define_line.Goals as goal
 
-pub returns-in_err-selector : goal.returns-in_err-selector
-returns-in_err-selector c =
+pub returns-in_err-selector-clause-numbered : goal.returns-in_err-selector-clause-numbered
+returns-in_err-selector-clause-numbered c =
     handed_line c.args.names.now c.selector.new.self (written.Define c.args.selector c.args.classes c.args.body) c.from_residual.result c.in_err-selector.field-0.0 c.from_residual.ensures.1
     (λ full. full_selector c.args.names.now c.args.selector.now (map ClassName (texts_of_classes c.args.classes) ++ Plain (45 ∷ 62 ∷ []) ∷ BodyName c.args.body.now ∷ []) (c.in_err-selector.ensures.full.0 full))
 
-pub returns-in_err-classes : goal.returns-in_err-classes
-returns-in_err-classes c =
+pub returns-in_err-classes-clause-numbered : goal.returns-in_err-classes-clause-numbered
+returns-in_err-classes-clause-numbered c =
     handed_line {T = ℕ} c.args.names.now c.number_classes.new.names (written.Define c.args.selector c.args.classes c.args.body) c.from_residual-in_err-classes.result c.in_err-classes.field-0.0 c.from_residual-in_err-classes.ensures.1
     (λ full. define_classes_full c.args.names.now c.selector.new.self c.args.selector.now (texts_of_classes c.args.classes) (Plain (45 ∷ 62 ∷ []) ∷ BodyName c.args.body.now ∷ []) c.in_ok-selector.ensures.ok
-    (numbered_full c.selector.new.self c.number_classes.new.names (texts_of_classes c.args.classes) c.in_err-classes.field-0.0 c.in_err-classes.ensures full))
+    (numbered_full c.selector.new.self c.number_classes.new.names (texts_of_classes c.args.classes) c.in_err-classes.field-0.0 c.in_err-classes.ensures.numbered full))
 
-pub returns-in_err-body : goal.returns-in_err-body
-returns-in_err-body c =
+pub returns-in_err-body-clause-numbered : goal.returns-in_err-body-clause-numbered
+returns-in_err-body-clause-numbered c =
     handed_line c.args.names.now c.body.new.self (written.Define c.args.selector c.args.classes c.args.body) c.from_residual-in_err-body.result c.in_err-body.field-0.0 c.from_residual-in_err-body.ensures.1
-    (λ full. define_body_full c.args.names.now c.selector.new.self c.number_classes.new.names c.args.selector.now c.args.body.now (45 ∷ 62 ∷ []) (texts_of_classes c.args.classes) c.in_ok-selector.ensures.ok c.in_ok-classes.ensures.0 (c.in_err-body.ensures.full.0 full))
+    (λ full. define_body_full c.args.names.now c.selector.new.self c.number_classes.new.names c.args.selector.now c.args.body.now (45 ∷ 62 ∷ []) (texts_of_classes c.args.classes) c.in_ok-selector.ensures.ok c.in_ok-classes.ensures.numbered.0 (c.in_err-body.ensures.full.0 full))

@@ -4,7 +4,7 @@ use Rattle.dt_script.specs.declared.written.Written.TheVariants as written
 use Rattle.dt_script.proofs.Tokens.{handed_line, full_selector}
 use Rattle.dt_script.proofs.numbered_line.undefine_line.Goals as goal
 
-pub returns-in_err-selector : goal.returns-in_err-selector
-returns-in_err-selector c =
+pub returns-in_err-selector-clause-numbered : goal.returns-in_err-selector-clause-numbered
+returns-in_err-selector-clause-numbered c =
     handed_line c.args.names.now c.selector.new.self (written.Undefine c.args.selector c.args.classes) c.from_residual.result c.in_err-selector.field-0.0 c.from_residual.ensures.1
     (λ full. full_selector c.args.names.now c.args.selector.now (map ClassName (texts_of_classes c.args.classes)) (c.in_err-selector.ensures.full.0 full))

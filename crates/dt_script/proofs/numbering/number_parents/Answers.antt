@@ -8,6 +8,7 @@ use Rattle.dt_selectors.specs.declared.names.NameFault.TheVariants.{NamesFull}
 use Rattle.dt_script.specs.NameBook.{NameBook, is_within_limits}
 use Rattle.dt_script.specs.Words.{words_left}
 use Rattle.dt_script.specs.Numbering.{with_classes, numbers_in}
+use Rattle.dt_script.proofs.Grown.{grew_on}
 use Rattle.dt_script.proofs.HandedOn.{handed_on}
 use Rattle.dt_script.proofs.NumbersStay.{full_class, parents_step}
 use Rattle.dt_script.proofs.WrittenTexts.{left_words}
@@ -38,6 +39,7 @@ loop-left-preserved c =
     record {
       book = c.loop-left.invariant.book ∙ ap (λ l. with_classes c.loop-left.names l) words ∙ ap (λ b. with_classes b rest) (sym c.in_ok-class.ensures.ok);
       numbers = λ new is. step new is ∙ ap (λ l. l ++ numbers_in new rest) (sym c.in_ok-push.ensures.ok);
+      grew = grew_on c.args.names.now c.loop-left.names c.class.new.self c.loop-left.invariant.grew c.in_ok-class.ensures.grew;
       are_names = (and_parts (is_name c.cut_word.result.0.now) (list_all is_name rest) (subst (λ (l : List (List ℕ)). IsTrue (list_all is_name l)) words c.loop-left.invariant.are_names)).1;
     }
 

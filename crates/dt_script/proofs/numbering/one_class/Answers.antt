@@ -2,7 +2,7 @@ use Rattle.std.proofs.Common.{[], ◌∷◌}
 use Rattle.dt_script.proofs.NumbersStay.{full_class, handed_number}
 use Rattle.dt_script.proofs.numbering.one_class.Goals as goal
 
-pub returns-in_err-a : goal.returns-in_err-a
-returns-in_err-a c =
+pub returns-in_err-a-clause-numbered : goal.returns-in_err-a-clause-numbered
+returns-in_err-a-clause-numbered c =
     handed_number c.args.names.now c.class.new.self (c.args.a.now ∷ []) c.from_residual.result c.in_err-a.field-0.0 c.from_residual.ensures.1
     (λ full. full_class c.args.names.now c.args.a.now [] (c.in_err-a.ensures.full.0 full))

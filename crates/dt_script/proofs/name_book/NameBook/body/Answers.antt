@@ -1,0 +1,6 @@
+use Rattle.std.proofs.Common.{rules}
+use Rattle.dt_script.proofs.Grown.{grew_body}
+use Rattle.dt_script.proofs.name_book.NameBook.body.Goals as goal
+
+pub returns-clause-grew : goal.returns-clause-grew
+returns-clause-grew c = grew_body c.args.self.now _ c.args.name.now (search rules)
