@@ -12,8 +12,8 @@ pub struct Callers {
     pub current: Option<u16>,
     /// The callers of this phase so far.
     pub stood: CallerSet,
-    /// The callers that have a pin.
-    pub pinned: CallerSet,
+    // The callers that have a pin.
+    pinned: CallerSet,
     ghost known: { ForSome current (λ caller. caller ≤ CALLERS) },
 }
 
