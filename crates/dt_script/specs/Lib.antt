@@ -24,4 +24,5 @@ pub mod WrittenLine
 pub mod NumberedLine
 pub mod Writing
 pub mod CallerSet
+pub mod LineRead
 pub mod Laws

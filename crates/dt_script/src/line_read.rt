@@ -3,8 +3,10 @@ ghost use Rattle.dt_script.specs.NameBook as book;
 ghost use Rattle.dt_script.specs.NameBook.{is_within_limits};
 ghost use Rattle.dt_script.specs.Growth.{GrewAtEnd};
 ghost use Rattle.dt_script.specs.Line.{LineOf};
+ghost use Rattle.dt_script.specs.LineRead.{IsAnswerTo};
 ghost use Rattle.dt_script.specs.Lines.{is_silent};
 
+use crate::laws::spellings_have_one_line;
 use crate::line::Line;
 use crate::name_book::NameBook;
 use crate::numbered_line::number_line;
@@ -53,8 +55,11 @@ pub fn read_line(
     ensures full { IsErrOf result LineFault.NamesFull → (line : Line) × (after : book.NameBook)
         × LineOf bytes.now names.old line after × IsTrue (not (is_within_limits after)) }
     ensures grew { GrewAtEnd names.old names.new }
+    ensures exact { (line : Line) (after : book.NameBook) → LineOf bytes.now names.old line after
+        → IsAnswerTo line after result names.new }
 {
     names.law();
+    spellings_have_one_line();
     if is_silent(bytes) {
         return Ok(None);
     }
