@@ -8,7 +8,7 @@ use Rattle.dt_script.specs.LawfulBook.{LawfulTexts, LawfulBook}
 no_texts : LawfulTexts []
 no_texts = record { distinct = λ number text is. absurd cc; are_names = All-nil (λ text. IsTrue (is_name text)) }
 
-no_names_are_lawful : LawfulBook empty_book
+pub no_names_are_lawful : LawfulBook empty_book
 no_names_are_lawful = record { classes = no_texts; selectors = no_texts; bodies = no_texts }
 
 -- a class that has two numbers

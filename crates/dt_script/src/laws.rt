@@ -1,3 +1,5 @@
+ghost use Rattle.dt_script.specs.NameBook.{empty_book};
+ghost use Rattle.dt_script.specs.LawfulBook.{LawfulBook};
 ghost use Rattle.dt_script.specs.Laws.{OneSpelling, ReadFromSpelling, WrittenAsRead, NoTwoLines, OneMeaning, StaysLawful, ReadAsWritten, GrowsByLine, GrowsOn, SpellingStays};
 
 use dt_selectors::names_keep_their_numbers;
@@ -19,10 +21,11 @@ pub fn spellings_have_one_line()
     names_keep_their_numbers();
 }
 
-/// What a line is spelled as in a book is this line again, and the book stays; after any line a lawful book is lawful. It
-/// does nothing: its contract is the law.
+/// What a line is spelled as in a book is this line again, and the book stays; the book without names is lawful, and a
+/// lawful book is so after any line. It does nothing: its contract is the law.
 pub fn written_lines_are_read_again()
     ensures again { ReadAsWritten }
+    ensures empty { LawfulBook empty_book }
     ensures lawful { StaysLawful }
 {
     names_keep_their_numbers();
