@@ -16,6 +16,7 @@ use Rattle.dt_script.specs.declared.line.Line.{Line}
 use Rattle.dt_script.specs.declared.line.Line.TheVariants as line
 use Rattle.dt_script.specs.declared.limits.TheConstants.{CALLERS}
 use Rattle.dt_script.proofs.WrittenTexts.{bounds}
+use Rattle.dt_script.proofs.Malformed.{some}
 use Rattle.dt_script.proofs.SameKinds.{is_fit}
 
 -- ---- a number is spelled as a word
@@ -43,12 +44,9 @@ stored-name texts text number lawful is =
     subst (λ t. IsTrue (is_name t)) (get_or_from_slice_get texts number text text is)
     (All-get_or (λ t. IsTrue (is_name t)) texts number text (slice_get_within texts number text is) lawful.are_names)
 
-some-same : {A : Type 0} (x y : A) → Some x ≡ Some y → x ≡ y
-some-same x y e = cc
-
 word-name : (book : NameBook) (word : Word) (text : List ℕ) → LawfulBook book → is_fit word ≡ true → text_of_word book word ≡ Some text → is_name text ≡ true
-word-name book (Plain plain) text lawful fit is = ap is_name (sym (some-same plain text is)) ∙ fit
-word-name book (Number number) text lawful fit is = ap is_name (sym (some-same (decimal number) text is)) ∙ decimal-name number (ltb-true number 65536 fit)
+word-name book (Plain plain) text lawful fit is = ap is_name (sym (some is)) ∙ fit
+word-name book (Number number) text lawful fit is = ap is_name (sym (some is)) ∙ decimal-name number (ltb-true number 65536 fit)
 word-name book (Class number) text lawful fit is = stored-name book.classes text number lawful.classes is
 word-name book (Selector number) text lawful fit is = stored-name book.selectors text number lawful.selectors is
 word-name book (Body number) text lawful fit is = stored-name book.bodies text number lawful.bodies is

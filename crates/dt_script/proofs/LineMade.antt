@@ -57,23 +57,10 @@ stays : (name other : List ℕ) (texts : List (List ℕ)) → is_some (place_of 
 stays name other texts known = ap is_some (kept name other texts known) ∙ known
 
 stays_known : (book : NameBook) (known other : Token) → IsKnown book known → IsKnown (with_token book other) known
-stays_known book (Plain text) other is = tt
-stays_known book (Number number) other is = tt
 stays_known book (ClassName text) (ClassName other) is = stays text other book.classes is
-stays_known book (ClassName text) (Plain other) is = is
-stays_known book (ClassName text) (Number other) is = is
-stays_known book (ClassName text) (SelectorName other) is = is
-stays_known book (ClassName text) (BodyName other) is = is
 stays_known book (SelectorName text) (SelectorName other) is = stays text other book.selectors is
-stays_known book (SelectorName text) (Plain other) is = is
-stays_known book (SelectorName text) (Number other) is = is
-stays_known book (SelectorName text) (ClassName other) is = is
-stays_known book (SelectorName text) (BodyName other) is = is
 stays_known book (BodyName text) (BodyName other) is = stays text other book.bodies is
-stays_known book (BodyName text) (Plain other) is = is
-stays_known book (BodyName text) (Number other) is = is
-stays_known book (BodyName text) (ClassName other) is = is
-stays_known book (BodyName text) (SelectorName other) is = is
+stays_known book known other is = is
 
 known_after : (book : NameBook) (known : Token) (tokens : List Token) → IsKnown book known → IsKnown (with_tokens book tokens) known
 known_after book known [] is = is
@@ -136,28 +123,15 @@ subclass-words book class (name ∷ names) some =
     ap (λ l. word.Plain (codes "class") ∷ word.Class class ∷ word.Plain (codes "<") ∷ word.Class (number_in book.classes name) ∷ l) (sym (names-alone book names))
 
 words-line : (book : NameBook) (w : Written) → words_of (line_in book w) ≡ map (word_of book) (tokens_of w)
-words-line book written.Header = refl
-words-line book (written.AddClass class) = refl
 words-line book (written.AddSubclass class parents) = subclass-words book (number_in book.classes class.now) (parts_at 32 parents.now) (some_part 32 parents.now)
-words-line book (written.DropClass class) = refl
-words-line book (written.Link class parent) = refl
-words-line book (written.Unlink class parent) = refl
-words-line book (written.AddSelector selector arity) = refl
-words-line book (written.DropSelector selector) = refl
 words-line book (written.Define selector classes body) =
     ap (λ l. word.Plain (codes "define") ∷ word.Selector (number_in book.selectors selector.now) ∷ l)
     (sym (names-words book (texts_of_classes classes) (Plain (codes "->") ∷ BodyName body.now ∷ [])))
 words-line book (written.Undefine selector classes) =
     ap (λ l. word.Plain (codes "undefine") ∷ word.Selector (number_in book.selectors selector.now) ∷ l) (sym (names-alone book (texts_of_classes classes)))
-words-line book written.Begin = refl
-words-line book written.Commit = refl
-words-line book written.Phase = refl
-words-line book (written.Caller caller) = refl
 words-line book (written.Call selector classes) =
     ap (λ l. word.Plain (codes "call") ∷ word.Selector (number_in book.selectors selector.now) ∷ l) (sym (names-alone book (texts_of_classes classes)))
-words-line book written.Pin = refl
-words-line book written.Unpin = refl
-words-line book written.End = refl
+words-line book w = refl
 
 -- ---- the numbers that are no names
 
@@ -168,24 +142,12 @@ classes-range book (Three a b c) = refl
 classes-range book (Four a b c d) = refl
 
 range-line : (book : NameBook) (w : Written) → IsTrue (is_written_in_range w) → IsTrue (is_in_range (line_in book w))
-range-line book written.Header range = refl
-range-line book (written.AddClass class) range = refl
-range-line book (written.AddSubclass class parents) range = refl
-range-line book (written.DropClass class) range = refl
-range-line book (written.Link class parent) range = refl
-range-line book (written.Unlink class parent) range = refl
 range-line book (written.AddSelector selector arity) range = range
-range-line book (written.DropSelector selector) range = refl
 range-line book (written.Define selector classes body) range = classes-range book classes
 range-line book (written.Undefine selector classes) range = classes-range book classes
-range-line book written.Begin range = refl
-range-line book written.Commit range = refl
-range-line book written.Phase range = refl
 range-line book (written.Caller caller) range = range
 range-line book (written.Call selector classes) range = classes-range book classes
-range-line book written.Pin range = refl
-range-line book written.Unpin range = refl
-range-line book written.End range = refl
+range-line book w range = refl
 
 -- ---- the line
 

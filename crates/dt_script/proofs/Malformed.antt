@@ -72,7 +72,7 @@ pub record Begins (line : Line) (texts : List (List ℕ)) : Type 0 where
   pub whole : texts ≡ text_of_keyword (first_of line) ∷ rest
   pub follows : MayFollow (first_of line) rest
 
-some : {A : Type 0} {x y : A} → Some x ≡ Some y → x ≡ y
+pub some : {A : Type 0} {x y : A} → Some x ≡ Some y → x ≡ y
 some e = cc
 
 classes-texts : (book : NameBook) (classes : List ℕ) (texts : List (List ℕ)) → AreTexts book (map Class classes) texts → length texts ≡ length classes
@@ -217,22 +217,7 @@ keyword_from text = find (λ k. same_text (text_of_keyword k) text) all_keywords
 
 from-text : (k : Keyword) → keyword_from (text_of_keyword k) ≡ Some k
 from-text keyword.Dispatch = refl
-from-text keyword.Class = refl
-from-text keyword.Drop = refl
-from-text keyword.Link = refl
-from-text keyword.Unlink = refl
-from-text keyword.Selector = refl
-from-text keyword.Forget = refl
-from-text keyword.Define = refl
-from-text keyword.Undefine = refl
-from-text keyword.Begin = refl
-from-text keyword.Commit = refl
-from-text keyword.Phase = refl
-from-text keyword.Caller = refl
-from-text keyword.Call = refl
-from-text keyword.Pin = refl
-from-text keyword.Unpin = refl
-from-text keyword.End = refl
+from-text k = refl
 
 pub same_keyword : (a b : Keyword) → text_of_keyword a ≡ text_of_keyword b → a ≡ b
 same_keyword a b same = some (sym (from-text a) ∙ ap keyword_from same ∙ from-text b)

@@ -1,5 +1,5 @@
 -- Texts tell the kinds of a line's words, so that they are the texts of one line at most.
-use Rattle.std.proofs.Common.{◌≡◌, ℕ, Bool, true, nat_lt, List, [], ◌∷◌, ◌++◌, length, map, get_or, drop, codes, decimal, Some, refl, sym, ap, ◌∙◌, arith, length-append}
+use Rattle.std.proofs.Common.{◌≡◌, ℕ, Bool, true, nat_lt, List, [], ◌∷◌, ◌++◌, length, map, get_or, drop, codes, Some, refl, sym, ap, ◌∙◌, arith, length-append}
 use Rattle.std.specs.List.{list_all, slice_get}
 use Rattle.std.proofs.lemmas.Bool.{and_parts, ltb-true}
 use Rattle.std.proofs.lemmas.List.{map-append, length-map}
@@ -16,7 +16,7 @@ use Rattle.dt_script.specs.declared.keyword.Keyword.TheVariants as keyword
 use Rattle.dt_script.specs.declared.line.Line.{Line}
 use Rattle.dt_script.specs.declared.line.Line.TheVariants as line
 use Rattle.dt_script.proofs.Joined.{texts-are}
-use Rattle.dt_script.proofs.Malformed.{first_of, same_keyword}
+use Rattle.dt_script.proofs.Malformed.{first_of, same_keyword, some}
 use Rattle.dt_script.proofs.SameLine.{line_with, line_from, back}
 
 -- a word's kind, as a word
@@ -97,11 +97,8 @@ kinds-book book (word ∷ words) (text ∷ texts) =
 
 -- ---- words with the same texts in a lawful book
 
-some-same : {A : Type 0} (x y : A) → Some x ≡ Some y → x ≡ y
-some-same x y e = cc
-
 one_place : (texts : List (List ℕ)) (text : List ℕ) (a b : ℕ) → LawfulTexts texts → slice_get texts a ≡ Some text → slice_get texts b ≡ Some text → a ≡ b
-one_place texts text a b lawful is is' = some-same a b (sym (lawful.distinct a text is) ∙ lawful.distinct b text is')
+one_place texts text a b lawful is is' = some (sym (lawful.distinct a text is) ∙ lawful.distinct b text is')
 
 -- whether a word that stands for itself is a word, and a number has 16 bits
 abbrev pub is_fit : Word → Bool
@@ -111,9 +108,9 @@ is_fit _ = true
 
 same_word : (book : NameBook) (a b : Word) (text : List ℕ) → LawfulBook book → is_fit a ≡ true → is_fit b ≡ true → kind_of a ≡ kind_of b
     → text_of_word book a ≡ Some text → text_of_word book b ≡ Some text → a ≡ b
-same_word book (Plain a) (Plain b) text lawful fit fit' same is is' = ap Plain (some-same a b (is ∙ sym is'))
+same_word book (Plain a) (Plain b) text lawful fit fit' same is is' = ap Plain (some (is ∙ sym is'))
 same_word book (Number a) (Number b) text lawful fit fit' same is is' =
-    ap Number (decimal_injective a b (omega (arith, ltb-true a 65536 fit)) (omega (arith, ltb-true b 65536 fit')) (some-same (decimal a) (decimal b) (is ∙ sym is')))
+    ap Number (decimal_injective a b (omega (arith, ltb-true a 65536 fit)) (omega (arith, ltb-true b 65536 fit')) (some (is ∙ sym is')))
 same_word book (Class a) (Class b) text lawful fit fit' same is is' = ap Class (one_place book.classes text a b lawful.classes is is')
 same_word book (Selector a) (Selector b) text lawful fit fit' same is is' = ap Selector (one_place book.selectors text a b lawful.selectors is is')
 same_word book (Body a) (Body b) text lawful fit fit' same is is' = ap Body (one_place book.bodies text a b lawful.bodies is is')
