@@ -16,3 +16,4 @@ pub mod SpellingLaws
 pub mod CallerBits
 pub mod InTurn
 pub mod NamedScript
+pub mod OneAnswer

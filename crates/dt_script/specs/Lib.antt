@@ -13,6 +13,7 @@ pub mod ScriptExamples
 pub mod Named
 pub mod ScriptOf
 pub mod ScriptOfExamples
+pub mod OneAnswer
 pub mod Playable
 pub mod PlayableExamples
 pub mod Cut
