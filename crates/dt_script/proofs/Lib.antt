@@ -17,3 +17,4 @@ pub mod CallerBits
 pub mod InTurn
 pub mod NamedScript
 pub mod OneAnswer
+pub mod Built

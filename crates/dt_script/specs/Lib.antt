@@ -23,6 +23,7 @@ pub mod Numbering
 pub mod Written
 pub mod WrittenLine
 pub mod NumberedLine
+pub mod ScriptBuilder
 pub mod Writing
 pub mod CallerSet
 pub mod LineRead

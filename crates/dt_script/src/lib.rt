@@ -3,19 +3,23 @@
 
 mod caller_set;
 mod callers;
+mod batches_builder;
 mod cut;
 mod keyword;
 mod laws;
 mod limits;
 mod line;
 mod line_read;
+mod meaning;
 mod name_book;
 mod numbered_line;
 mod numbering;
 mod one_answer;
 mod place;
 mod playable;
+mod parts_builder;
 mod script;
+mod script_builder;
 mod script_fault;
 mod words;
 mod writing;
