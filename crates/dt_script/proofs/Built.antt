@@ -258,3 +258,7 @@ takes_within old new l m is within same batches parts = record {
 -- one more line
 pub holds_more : (old new : ScriptBuilder) (lines : List Line) (l : Line) → Holds old lines → Takes old l new → Holds new (lines ++ l ∷ [])
 holds_more old new lines l holds takes = record { same = λ more. takes.same more ∙ holds.same (l ∷ more) ∙ ap (λ ls. map phase_of (slice_split is_phase ls)) (sym (append_assoc lines (l ∷ []) more)) }
+
+-- the header gives nothing, and is the first line
+pub holds_header : (b : ScriptBuilder) → Holds b [] → Holds b (line.Header ∷ [])
+holds_header b holds = holds_more b b [] line.Header holds (takes_within b b line.Header meaning.Nothing refl refl refl (batches_stay b.batches b.batches line.Header meaning.Nothing refl (λ inside more. refl) refl) (parts_stay b.parts b.parts line.Header meaning.Nothing refl (λ more. refl) (λ more. refl) refl))

@@ -18,3 +18,6 @@ pub mod InTurn
 pub mod NamedScript
 pub mod OneAnswer
 pub mod Built
+pub mod SamePlace
+pub mod LinesRead
+pub mod LinesCut

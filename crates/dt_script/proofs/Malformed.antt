@@ -60,10 +60,10 @@ first_of Pin = keyword.Pin
 first_of Unpin = keyword.Unpin
 first_of End = keyword.End
 
-heads : {A : Type 0} {x y : A} {xs ys : List A} → x ∷ xs ≡ y ∷ ys → x ≡ y
+pub heads : {A : Type 0} {x y : A} {xs ys : List A} → x ∷ xs ≡ y ∷ ys → x ≡ y
 heads e = cc
 
-tails : {A : Type 0} {x y : A} {xs ys : List A} → x ∷ xs ≡ y ∷ ys → xs ≡ ys
+pub tails : {A : Type 0} {x y : A} {xs ys : List A} → x ∷ xs ≡ y ∷ ys → xs ≡ ys
 tails e = cc
 
 -- what has the words of a line begins with its first word, and what follows may follow that
@@ -99,7 +99,7 @@ next : (book : NameBook) (word : Word) (words : List Word) (texts : List (List �
 next book word words [] are = absurd are
 next book word words (text ∷ texts) (is, are) = (text, texts, refl, is, are)
 
-plain : (book : NameBook) (text : List ℕ) (words : List Word) (texts : List (List ℕ)) → AreTexts book (Plain text ∷ words) texts
+pub plain : (book : NameBook) (text : List ℕ) (words : List Word) (texts : List (List ℕ)) → AreTexts book (Plain text ∷ words) texts
     → (rest : List (List ℕ)) × (texts ≡ text ∷ rest) × AreTexts book words rest
 plain book text words [] are = absurd are
 plain book text words (other ∷ texts) (is, are) = (texts, ap (λ t. t ∷ texts) (some (sym is)), are)
@@ -108,7 +108,7 @@ nothing : (book : NameBook) (texts : List (List ℕ)) → AreTexts book [] texts
 nothing book [] are = refl
 nothing book (text ∷ texts) are = absurd are
 
-one : (book : NameBook) (word : Word) (texts : List (List ℕ)) → AreTexts book (word ∷ []) texts → (text : List ℕ) × (texts ≡ text ∷ []) × (text_of_word book word ≡ Some text)
+pub one : (book : NameBook) (word : Word) (texts : List (List ℕ)) → AreTexts book (word ∷ []) texts → (text : List ℕ) × (texts ≡ text ∷ []) × (text_of_word book word ≡ Some text)
 one book word [] are = absurd are
 one book word (text ∷ []) (is, are) = (text, refl, is)
 one book word (text ∷ more ∷ texts) (is, are) = absurd are
@@ -128,7 +128,7 @@ with_classes book selector classes texts range are =
     (s, rest, whole, subst (λ (n : ℕ). IsTrue (is_from_one_to 4 n)) (sym (classes-texts book classes rest more)) range)
 
 -- a line of its first word alone
-alone : (book : NameBook) (text : List ℕ) (texts : List (List ℕ)) → AreTexts book (Plain text ∷ []) texts → texts ≡ text ∷ []
+pub alone : (book : NameBook) (text : List ℕ) (texts : List (List ℕ)) → AreTexts book (Plain text ∷ []) texts → texts ≡ text ∷ []
 alone book text texts are =
     let (rest, whole, more) = plain book text [] texts are in
     whole ∙ ap (λ l. text ∷ l) (nothing book rest more)

@@ -24,6 +24,7 @@ pub mod Written
 pub mod WrittenLine
 pub mod NumberedLine
 pub mod ScriptBuilder
+pub mod Reading
 pub mod Writing
 pub mod CallerSet
 pub mod LineRead

@@ -73,8 +73,8 @@ pub fn read_line(
     }
 }
 
-// Whether the line means nothing.
-fn is_silent(bytes: &[u8]) -> bool
+/// Whether the line means nothing.
+pub fn is_silent(bytes: &[u8]) -> bool
     ensures { result ≡ is_silent bytes.now }
 {
     match *bytes {

@@ -1,0 +1,75 @@
+ghost use Rattle.std.specs.Prelude.{◌≡◌, ◌≤◌, ℕ, List, [], ◌∷◌, length, reverse, IfOk, IfErr, OnOk, IfSome, MatchOption, ◌⊎◌};
+ghost use Rattle.dt_script.specs.Lines.{lines_of};
+ghost use Rattle.dt_script.specs.ScriptOf.{HasHeader, IsScriptOf, IsFaultOf};
+ghost use Rattle.dt_script.specs.Reading.{HasRead};
+ghost use Rattle.dt_script.specs.declared.limits.TheConstants.{CALLERS, SCRIPT_BYTES};
+ghost use Rattle.dt_script.specs.declared.line.Line.{Line};
+ghost use Rattle.dt_script.specs.declared.line.Line.TheVariants.{Header};
+
+use crate::lines::first_line;
+use crate::reading::Reading;
+use crate::script::Script;
+use crate::script_fault::ScriptFault;
+use crate::words::is_word;
+use std::alloc::Global;
+
+// The script that the bytes are.
+fn script_of_bytes(alloc: Global, bytes: &[u8], readers: u16) -> Result<Script, ScriptFault>
+    requires readers { readers ≤ CALLERS }
+    requires short { length bytes.now ≤ SCRIPT_BYTES }
+    ensures script { IfOk result (λ script. IsScriptOf readers bytes.now script) }
+    ensures fault { IfErr result (λ fault. (fault ≡ ScriptFault.NoMemory) ⊎ IsFaultOf readers bytes.now fault) }
+{
+    let Some(lines) = after_header(bytes) else {
+        return Err(ScriptFault::NoHeader);
+    };
+    let Ok(mut reading) = Reading::new(alloc) else {
+        return Err(ScriptFault::NoMemory);
+    };
+    match read_lines(alloc, &mut reading, readers, lines) {
+        Ok(()) => reading.finish(),
+        Err(fault) => Err(fault),
+    }
+}
+
+// The bytes after the header; `None` exactly where there is none.
+fn after_header(bytes: &[u8]) -> Option<&[u8]>
+    ensures header { MatchOption result ((texts : List (List ℕ)) → HasHeader bytes.now texts → ⊥)
+        (λ lines. HasHeader bytes.now (lines_of lines.now)) }
+    ensures shorter { IfSome result (λ lines. length lines.now ≤ length bytes.now) }
+{
+    if bytes.is_empty() {
+        return None;
+    }
+    let (line, rest) = first_line(bytes);
+    if is_word(line, b"dispatch 1") {
+        Some(rest)
+    } else {
+        None
+    }
+}
+
+// Reads the lines after the header.
+fn read_lines(
+    alloc: Global,
+    reading: &mut Reading,
+    readers: u16,
+    lines: &[u8],
+) -> Result<(), ScriptFault>
+    requires readers { readers ≤ CALLERS }
+    requires short { length lines.now ≤ SCRIPT_BYTES }
+    requires header { HasRead readers reading.old [] (Header ∷ []) }
+    ensures read { OnOk result ((past : List Line) × HasRead readers reading.new (reverse (lines_of lines.now)) past) }
+    ensures fault { IfErr result (λ fault. (bytes : List ℕ) → HasHeader bytes (lines_of lines.now)
+        → (fault ≡ ScriptFault.NoMemory) ⊎ IsFaultOf readers bytes fault) }
+{
+    let mut left = lines;
+    let mut number = 1;
+    while !left.is_empty() {
+        let (text, rest) = first_line(left);
+        number += 1;
+        reading.read(alloc, readers, number, text)?;
+        left = rest;
+    }
+    Ok(())
+}
