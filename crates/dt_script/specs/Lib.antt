@@ -16,6 +16,7 @@ pub mod ScriptOfExamples
 pub mod OneAnswer
 pub mod Playable
 pub mod PlayableExamples
+pub mod ReadScript
 pub mod Cut
 pub mod Words
 pub mod Keyword

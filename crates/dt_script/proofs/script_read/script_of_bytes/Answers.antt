@@ -1,7 +1,7 @@
 use Rattle.std.proofs.Common.{Ok}
 use Rattle.dt_script.specs.ScriptOf.{IsScriptOf}
 use Rattle.dt_script.proofs.LinesRead.{on_both, script_read}
-use Rattle.dt_script.proofs.read_script.script_of_bytes.Goals as goal
+use Rattle.dt_script.proofs.script_read.script_of_bytes.Goals as goal
 
 pub returns-in-Ok-read_lines-clause-script : goal.returns-in-Ok-read_lines-clause-script
 returns-in-Ok-read_lines-clause-script c =

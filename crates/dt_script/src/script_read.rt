@@ -1,17 +1,58 @@
-ghost use Rattle.std.specs.Prelude.{◌≡◌, ◌≤◌, ℕ, List, [], ◌∷◌, length, reverse, IfOk, IfErr, OnOk, IfSome, MatchOption, ◌⊎◌};
+ghost use Rattle.std.specs.Prelude.{◌≡◌, ◌≤◌, ◌+◌, ℕ, List, [], ◌∷◌, length, reverse, IfOk, IfErr, OnOk, IfSome, MatchOption, ◌⊎◌};
+ghost use Rattle.dt_outside.specs.Losing.{LosesAtMost};
 ghost use Rattle.dt_script.specs.Lines.{lines_of};
 ghost use Rattle.dt_script.specs.ScriptOf.{HasHeader, IsScriptOf, IsFaultOf};
+ghost use Rattle.dt_script.specs.ReadScript.{WasRead, IsFaultOfSource, IsFaultCounted};
 ghost use Rattle.dt_script.specs.Reading.{HasRead};
 ghost use Rattle.dt_script.specs.declared.limits.TheConstants.{CALLERS, SCRIPT_BYTES};
 ghost use Rattle.dt_script.specs.declared.line.Line.{Line};
 ghost use Rattle.dt_script.specs.declared.line.Line.TheVariants.{Header};
 
+use crate::limits::SCRIPT_BYTES;
 use crate::lines::first_line;
 use crate::reading::Reading;
 use crate::script::Script;
 use crate::script_fault::ScriptFault;
 use crate::words::is_word;
+use dt_outside::{ReadFault, Source, read_to_end};
 use std::alloc::Global;
+
+/// The script that the source gives, for callers from 1 to `readers`. The source is read to its end, or up to one byte more
+/// than a script may have. It takes memory: the bytes while they are read, and room for the names, the batches and the
+/// lines of the callers; a batch of one edit takes room for one.
+///
+/// The cost grows with the bytes, and with one hash a name; no line is looked at twice.
+///
+/// # Errors
+///
+/// The first of these, in this order. [`ScriptFault::ReadFault`] where the source failed, whose count of faults is one
+/// more then; [`ScriptFault::TooLong`] exactly where it gave one byte more than [`SCRIPT_BYTES`]. Else the bytes were
+/// read to their end. [`ScriptFault::NoHeader`] where the first line isn't `dispatch 1`. [`ScriptFault::Malformed`] or
+/// [`ScriptFault::NamesFull`] with the first line that has a fault: it is malformed where no line with its bytes may
+/// stand there, and else its new names are more than there may be. [`ScriptFault::NoEnd`] where the last line that means
+/// something isn't `end`. [`ScriptFault::NoMemory`] may come instead of any of these.
+pub fn read_script<S: Source>(
+    alloc: Global,
+    source: &mut S,
+    readers: u16,
+) -> Result<Script, ScriptFault>
+    requires least { 1 ≤ readers }
+    requires greatest { readers ≤ CALLERS }
+    ensures script { IfOk result (λ script. (bytes : List ℕ)
+        × WasRead (S.left source.old) (S.left source.new) bytes × IsScriptOf readers bytes script) }
+    ensures fault { IfErr result (IsFaultOfSource readers (S.left source.old) (S.left source.new)) }
+    ensures lost { LosesAtMost (SCRIPT_BYTES + 1) (S.left source.old) (S.left source.new) }
+    ensures counted { IsFaultCounted result (S.faults source.old) (S.faults source.new) }
+    ensures counts { S.faults source.old ≤ S.faults source.new }
+{
+    let bytes = match read_to_end(alloc, source, SCRIPT_BYTES) {
+        Ok(bytes) => bytes,
+        Err(ReadFault::Read) => return Err(ScriptFault::ReadFault),
+        Err(ReadFault::TooLong) => return Err(ScriptFault::TooLong),
+        Err(ReadFault::NoMemory) => return Err(ScriptFault::NoMemory),
+    };
+    script_of_bytes(alloc, &bytes, readers)
+}
 
 // The script that the bytes are.
 fn script_of_bytes(alloc: Global, bytes: &[u8], readers: u16) -> Result<Script, ScriptFault>

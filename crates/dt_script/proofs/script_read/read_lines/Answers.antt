@@ -1,5 +1,5 @@
 use Rattle.dt_script.proofs.LinesRead.{on_told, fault_next}
-use Rattle.dt_script.proofs.read_script.read_lines.Goals as goal
+use Rattle.dt_script.proofs.script_read.read_lines.Goals as goal
 
 pub returns-in_err-read-clause-fault : goal.returns-in_err-read-clause-fault
 returns-in_err-read-clause-fault c =
