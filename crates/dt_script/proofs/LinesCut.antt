@@ -1,5 +1,5 @@
 -- The first line of bytes.
-use Rattle.std.proofs.Common.{◌≡◌, ℕ, ◌<◌, IsTrue, List, [], ◌∷◌, ◌++◌, length, Bor, Option, Some, None, MatchOption, refl, sym, ap, ◌∙◌, arith}
+use Rattle.std.proofs.Common.{◌≡◌, ℕ, ◌<◌, IsTrue, List, [], ◌∷◌, ◌++◌, length, refl, ap, ◌∙◌, arith}
 use Rattle.dt_script.specs.Cut.{is_free_of, parts_at}
 use Rattle.dt_script.specs.Lines.{without_empty_last, lines_of}
 use Rattle.dt_script.proofs.Parts.{parts_only, parts_first, some_part}

@@ -1,18 +1,17 @@
 -- What was read after one more line, and the faults of a line.
-use Rattle.std.proofs.Common.{◌≡◌, ◌+◌, ◌≤◌, ◌<◌, ℕ, true, false, not, IsTrue, List, [], ◌∷◌, ◌++◌, length, map, take, reverse, Result, Ok, Err, Some, None, inl, inr, refl, sym, ap, subst, ◌∙◌, arith, append_assoc, append-nil}
+use Rattle.std.proofs.Common.{◌≡◌, ◌+◌, ◌≤◌, ℕ, true, false, not, IsTrue, List, [], ◌∷◌, ◌++◌, length, map, take, reverse, Result, Ok, Err, Some, None, inl, inr, refl, sym, ap, subst, ◌∙◌, arith, append-nil}
 use Rattle.std.specs.Prelude.{IfOk, OnOk, IfErr, IsErrAnd, ◌⊎◌, slice_get}
 use Rattle.std.specs.List.{slice_split}
 use Rattle.std.proofs.Math.Seq.{take-append_seam}
 use Rattle.std.proofs.lemmas.Bool.{not_from_false}
 use Rattle.std.proofs.lemmas.List.{reverse-append, reverse-reverse, length-reverse}
 use Rattle.dt_script.specs.NameBook.{NameBook, is_within_limits}
-use Rattle.dt_script.specs.Line.{LineOf}
 use Rattle.dt_script.specs.Lines.{is_silent, lines_of}
-use Rattle.dt_script.specs.Place.{may_stand, has_ended}
+use Rattle.dt_script.specs.Place.{may_stand}
 use Rattle.dt_script.specs.Written.{tokens_of, with_tokens, line_in}
 use Rattle.dt_script.specs.WrittenLine.{IsWrittenLine}
 use Rattle.dt_script.specs.Script.{Script, is_phase, phase_of}
-use Rattle.dt_script.specs.ScriptOf.{IsRead, WereRead, IsMalformed, IsFull, HasHeader, IsFirstFaultAt, IsScriptOf, IsFaultOf}
+use Rattle.dt_script.specs.ScriptOf.{WereRead, IsMalformed, IsFull, HasHeader, IsFirstFaultAt, IsScriptOf, IsFaultOf}
 use Rattle.dt_script.specs.ScriptBuilder.{Holds, script_in}
 use Rattle.dt_script.specs.Reading.{HasRead, TakesWritten, IsFaultAt}
 use Rattle.dt_script.specs.declared.line.Line.{Line}
@@ -49,7 +48,10 @@ pub line_read : (readers : ℕ) (old new : Reading) (text : List ℕ) (w : Writt
     → IsTrue (may_stand readers past (line_in new.names w)) → TakesWritten old w new → HasRead readers new (text ∷ texts) (line_in new.names w ∷ past)
 line_read readers old new text w texts past has means written stands takes = record {
   were_read = inr (
-    old.names, past, line_in new.names w, has.were_read,
+    old.names,
+    past,
+    line_in new.names w,
+    has.were_read,
     record { is_line = line_made text w old.names new.names written takes.names; stands = stands; fits = takes.fits },
     not_from_false (is_silent text) means,
     refl,
@@ -67,13 +69,16 @@ pub fault_at : (readers : ℕ) (text : List ℕ) (book : NameBook) (past : List 
 fault_at readers text book past number w fault written stands (inl is) = subst (λ (f : ScriptFault). IsFaultAt readers text book past number f) (sym is) tt
 fault_at readers text book past number w fault written stands (inr (is, full)) =
     let after = with_tokens book (tokens_of w) in
-    subst (λ (f : ScriptFault). IsFaultAt readers text book past number f) (sym is) (refl, record {
-      line = line_in after w;
-      after = after;
-      is_line = line_made text w book after written refl;
-      stands = stands;
-      full = full;
-    })
+    subst (λ (f : ScriptFault). IsFaultAt readers text book past number f) (sym is) (
+      refl,
+      record {
+        line = line_in after w;
+        after = after;
+        is_line = line_made text w book after written refl;
+        stands = stands;
+        full = full;
+      },
+    )
 
 -- ---- all lines
 
@@ -83,27 +88,6 @@ pub record IsUpTo (readers : ℕ) (reading : Reading) (all left : List ℕ) (num
   pub whole : lines_of all ≡ reverse texts ++ lines_of left
   pub numbered : number ≡ length texts + 1
   pub within : length texts + length left ≤ length all
-
--- before the first line
-pub up_to_start : (readers : ℕ) (reading : Reading) (all : List ℕ) (past : List Line) → HasRead readers reading [] past → IsUpTo readers reading all all 1 [] past
-up_to_start readers reading all past has = record { has = has; whole = refl; numbered = refl; within = omega arith }
-
--- one more line
-pub up_to_more : (readers : ℕ) (old new : Reading) (all left text rest : List ℕ) (number : ℕ) (texts : List (List ℕ)) (past now : List Line) → IsUpTo readers old all left number texts past → lines_of left ≡ text ∷ lines_of rest
-    → length rest < length left → HasRead readers new (text ∷ texts) now → IsUpTo readers new all rest (number + 1) (text ∷ texts) now
-up_to_more readers old new all left text rest number texts past now so_far first shorter has = record {
-  has = has;
-  whole = so_far.whole ∙ ap (λ l. reverse texts ++ l) first ∙ sym (append_assoc (reverse texts) (text ∷ []) (lines_of rest)) ∙ ap (λ l. l ++ lines_of rest) (sym (reverse-append (text ∷ []) texts));
-  numbered = omega (arith, so_far.numbered);
-  within = omega (arith, so_far.within, shorter);
-}
-
--- after the last line
-pub up_to_end : (readers : ℕ) (reading : Reading) (all left : List ℕ) (number : ℕ) (texts : List (List ℕ)) (past : List Line) → IsUpTo readers reading all left number texts past → left ≡ []
-    → HasRead readers reading (reverse (lines_of all)) past
-up_to_end readers reading all left number texts past so_far none =
-    let all_read : lines_of all ≡ reverse texts = so_far.whole ∙ ap (λ l. reverse texts ++ lines_of l) none ∙ append-nil (reverse texts) in
-    subst (λ (ts : List (List ℕ)). HasRead readers reading ts past) (sym (ap reverse all_read ∙ reverse-reverse texts)) so_far.has
 
 -- a fault of the next line
 at_seam : (xs : List (List ℕ)) (y : List ℕ) (ys : List (List ℕ)) → slice_get (xs ++ y ∷ ys) (length xs) ≡ Some y
@@ -115,9 +99,15 @@ first_fault : (fault : NameBook → List Line → List ℕ → Type 0) (readers 
 first_fault fault readers bytes lines texts text rest book past number at header whole numbered read is faulty =
     let count : length (reverse texts) ≡ length texts = length-reverse texts in
     let here : slice_get lines (length texts) ≡ Some text = ap (λ l. slice_get l (length texts)) whole ∙ ap (slice_get (reverse texts ++ text ∷ rest)) (sym count) ∙ at_seam (reverse texts) text rest in
-    let before : take (length texts) lines ≡ reverse texts = ap (take (length texts)) whole ∙ ap (λ n. take n (reverse texts ++ text ∷ rest)) (sym count) ∙ take-append_seam (reverse texts) (text ∷ rest) in
-    (
-      lines, length texts, text, book, past, header, omega (arith, is, numbered), here,
+    let before : take (length texts) lines ≡ reverse texts = ap (take (length texts)) whole ∙ ap (λ n. take n (reverse texts ++ text ∷ rest)) (sym count) ∙ take-append_seam (reverse texts) (text ∷ rest) in (
+      lines,
+      length texts,
+      text,
+      book,
+      past,
+      header,
+      omega (arith, is, numbered),
+      here,
       subst (λ (ts : List (List ℕ)). WereRead readers ts book past) (sym (ap reverse before ∙ reverse-reverse texts)) read,
       faulty,
     )
@@ -148,20 +138,6 @@ script_read readers reading bytes lines past script header has ended is = record
   ended = sym has.ended ∙ ended;
   built = is ∙ ap (λ ps. record { names = reading.names; phases = ps }) (has.holds.same [] ∙ ap (λ ls. map phase_of (slice_split is_phase ls)) (append-nil (reverse past)));
 }
-
--- the fault after all lines
-pub no_end : (readers : ℕ) (reading : Reading) (bytes : List ℕ) (lines : List (List ℕ)) (past : List Line) (fault : ScriptFault) → HasHeader bytes lines → HasRead readers reading (reverse lines) past
-    → (fault ≡ NoMemory) ⊎ ((fault ≡ NoEnd) × (reading.ended ≡ false)) → (fault ≡ NoMemory) ⊎ IsFaultOf readers bytes fault
-no_end readers reading bytes lines past fault header has (inl is) = inl is
-no_end readers reading bytes lines past fault header has (inr (is, goes_on)) =
-    inr (subst (λ (f : ScriptFault). IsFaultOf readers bytes f) (sym is) (record {
-      texts = lines;
-      book = reading.names;
-      past = past;
-      header = header;
-      were_read = has.were_read;
-      goes_on = not_from_false (has_ended past) (sym has.ended ∙ goes_on);
-    }))
 
 -- what follows of two facts of a value
 pub on_both : {T E : Type 0} {P R : T → Type 0} {Q : Type 0} (result : Result T E) → IfOk result P → OnOk result Q → ((value : T) → P value → Q → R value) → IfOk result R

@@ -1,14 +1,12 @@
 -- Lines with the same bytes stand at the same places.
-use Rattle.std.proofs.Common.{◌≡◌, ℕ, ◌+◌, ◌<◌, ◌≤◌, ◌^◌, Bool, true, not, ◌&&◌, IsTrue, is_none, is_some, nat_le, List, [], ◌∷◌, ◌++◌, map, codes, decimal, Option, Some, None, refl, sym, ap, subst, ◌∙◌, arith}
+use Rattle.std.proofs.Common.{◌≡◌, ℕ, Bool, not, ◌&&◌, IsTrue, is_none, is_some, nat_le, List, [], ◌∷◌, codes, decimal, Some, None, refl, sym, ap, subst, ◌∙◌, arith}
 use Rattle.std.proofs.lemmas.Fmt.{decimal_injective}
 use Rattle.dt_script.specs.NameBook.{NameBook, empty_book}
-use Rattle.dt_script.specs.Cut.{parts_at}
 use Rattle.dt_script.specs.Word.{Number, AreTexts}
 use Rattle.dt_script.specs.Keyword.{text_of_keyword}
 use Rattle.dt_script.specs.Line.{words_of, is_in_range, is_from_one_to, LineOf}
 use Rattle.dt_script.specs.Place.{is_in_batch, caller_after, has_stood, may_pin, may_unpin, has_ended, is_first, may_follow, may_stand}
-use Rattle.dt_script.specs.Written.{Token, Plain, ClassName, SelectorName, BodyName, text_of_token, texts_of, texts_of_classes, is_written_in_range, line_in}
-use Rattle.dt_script.specs.Written as token
+use Rattle.dt_script.specs.Written.{texts_of, is_written_in_range, line_in}
 use Rattle.dt_script.specs.WrittenLine.{IsWrittenLine}
 use Rattle.dt_script.specs.declared.limits.TheConstants.{CALLERS}
 use Rattle.dt_script.specs.declared.keyword.Keyword.{Keyword}

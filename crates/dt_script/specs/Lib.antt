@@ -1,13 +1,14 @@
+-- To be read first, in this order: the names of a script, the words of a line and what a line is, the lines of a text and
+-- those that mean nothing, where a line may stand, what a script is of its lines, which script bytes are or which fault
+-- comes first in them, what is read of a source, and how a line is written.
 pub mod NameBook
 pub mod LawfulBook
 pub mod LawfulBookExamples
 pub mod Growth
 pub mod Word
 pub mod Line
-pub mod LineExamples
 pub mod Lines
 pub mod Place
-pub mod PlaceExamples
 pub mod Script
 pub mod ScriptExamples
 pub mod Named
@@ -16,7 +17,17 @@ pub mod ScriptOfExamples
 pub mod OneAnswer
 pub mod Playable
 pub mod PlayableExamples
+pub mod ScriptOf
 pub mod ReadScript
+pub mod Writing
+-- Laws that follow from these.
+pub mod Laws
+-- Worked examples.
+pub mod LineExamples
+pub mod PlaceExamples
+pub mod ScriptExamples
+pub mod ScriptOfExamples
+-- How it is read: no clause of a public call speaks of these.
 pub mod Cut
 pub mod Words
 pub mod Keyword
@@ -24,6 +35,7 @@ pub mod Numbering
 pub mod Written
 pub mod WrittenLine
 pub mod NumberedLine
+pub mod CallerSet
 pub mod ScriptBuilder
 pub mod Reading
 pub mod Writing

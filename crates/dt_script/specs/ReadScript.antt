@@ -1,5 +1,5 @@
 -- What reading a script from a source says of the bytes that the source had left, where it tells them.
-use Rattle.std.specs.Prelude.{◌≡◌, ℕ, ◌+◌, ◌≤◌, List, [], length, Option, Some, IfSome, Result, Ok, Err}
+use Rattle.std.specs.Prelude.{◌≡◌, ℕ, ◌+◌, ◌≤◌, List, [], length, Option, Some, IfSome, Result, Err}
 use Rattle.dt_outside.specs.Faults.{one_fault_more}
 use Rattle.dt_outside.specs.Losing.{Loses, LosesAtMost}
 use Rattle.dt_script.specs.ScriptOf.{IsFaultOf}

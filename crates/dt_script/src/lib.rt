@@ -25,6 +25,7 @@ mod script;
 mod script_builder;
 mod script_fault;
 mod script_read;
+mod sharing;
 mod words;
 mod writing;
 mod written;

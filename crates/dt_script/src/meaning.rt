@@ -5,7 +5,7 @@ use crate::line::{CallerLine, Line};
 use dt_definitions::Edit;
 
 /// What a line gives to the script that it is in.
-#[derive(Debug, Drop)]
+#[derive(Drop)]
 pub enum Meaning {
     Edit { edit: Edit },
     Begin,

@@ -1,5 +1,3 @@
-use Rattle.std.proofs.Common.{Ok}
-use Rattle.dt_script.specs.ScriptOf.{IsScriptOf}
 use Rattle.dt_script.proofs.LinesRead.{on_both, script_read}
 use Rattle.dt_script.proofs.script_read.script_of_bytes.Goals as goal
 

@@ -1,5 +1,5 @@
 use Rattle.std.proofs.Common.{refl, sym, ◌∙◌}
-use Rattle.dt_script.specs.Written.{with_tokens, tokens_of, line_in}
+use Rattle.dt_script.specs.Written.{with_tokens, tokens_of}
 use Rattle.dt_script.proofs.Joined.{on_ok}
 use Rattle.dt_script.proofs.LinesRead.{on_err, no_line, no_place, line_read, fault_at}
 use Rattle.dt_script.proofs.reading.Reading.read.Goals as goal
