@@ -1,32 +1,30 @@
 -- To be read first, in this order: the names of a script, the words of a line and what a line is, the lines of a text and
 -- those that mean nothing, where a line may stand, what a script is of its lines, which script bytes are or which fault
--- comes first in them, what is read of a source, and how a line is written.
+-- comes first in them, what is read of a source, what performing asks of a script, that its numbers have names, and how a
+-- line is written.
 pub mod NameBook
-pub mod LawfulBook
-pub mod LawfulBookExamples
-pub mod Growth
 pub mod Word
 pub mod Line
 pub mod Lines
 pub mod Place
 pub mod Script
-pub mod ScriptExamples
-pub mod Named
-pub mod ScriptOf
-pub mod ScriptOfExamples
-pub mod OneAnswer
-pub mod Playable
-pub mod PlayableExamples
 pub mod ScriptOf
 pub mod ReadScript
+pub mod Playable
+pub mod Named
 pub mod Writing
 -- Laws that follow from these.
+pub mod LawfulBook
+pub mod Growth
 pub mod Laws
+pub mod OneAnswer
 -- Worked examples.
 pub mod LineExamples
 pub mod PlaceExamples
 pub mod ScriptExamples
 pub mod ScriptOfExamples
+pub mod PlayableExamples
+pub mod LawfulBookExamples
 -- How it is read: no clause of a public call speaks of these.
 pub mod Cut
 pub mod Words
@@ -35,10 +33,7 @@ pub mod Numbering
 pub mod Written
 pub mod WrittenLine
 pub mod NumberedLine
+pub mod LineRead
 pub mod CallerSet
 pub mod ScriptBuilder
 pub mod Reading
-pub mod Writing
-pub mod CallerSet
-pub mod LineRead
-pub mod Laws

@@ -1,9 +1,9 @@
 //! Scripts: lines of text, what each means, where each may stand, and the names that they number.
 #![tactic(auto)]
 
+mod batches_builder;
 mod caller_set;
 mod callers;
-mod batches_builder;
 mod cut;
 mod keyword;
 mod laws;
@@ -16,10 +16,9 @@ mod name_book;
 mod numbered_line;
 mod numbering;
 mod one_answer;
+mod parts_builder;
 mod place;
 mod playable;
-mod parts_builder;
-mod read_script;
 mod reading;
 mod script;
 mod script_builder;
