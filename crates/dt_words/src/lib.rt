@@ -1,0 +1,16 @@
+//! The words of a command line, and the command that they write.
+#![tactic(auto)]
+
+mod arg_words;
+mod command;
+mod limits;
+mod number;
+mod words_fault;
+
+pub use arg_words::ArgWords;
+pub use command::{Command, Table};
+pub use limits::{
+    ENTRIES, ENTRIES_UNLESS_GIVEN, LEAST_PAGES, Limits, PAGES, PAGES_UNLESS_GIVEN, READERS,
+    READERS_UNLESS_GIVEN, VERSIONS,
+};
+pub use words_fault::WordsFault;
