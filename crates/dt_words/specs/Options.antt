@@ -35,7 +35,7 @@ is_among names text = list_any (λ name. bytes_eq name text) names
 
 -- the names without this one
 abbrev pub without : List ℕ → List (List ℕ) → List (List ℕ)
-without text names = filter (λ name. not (bytes_eq name text)) names
+without text names = filter (λ name. not (bytes_eq text name)) names
 
 -- this option and then the others, if the others are options
 abbrev pub put : List ℕ → List ℕ → Option (List Given) → Option (List Given)
