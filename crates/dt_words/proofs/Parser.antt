@@ -10,17 +10,10 @@ use Rattle.clap.specs.Kinds.{or_else}
 use Rattle.clap.specs.Takes.{is_given}
 use Rattle.clap.specs.Faults.{is_simple_and_free, check_fault, defaults_fault, default_fault}
 use Rattle.dt_words.specs.Options.{is_among}
+use Rattle.dt_words.specs.Parsed.{option_rule, options_app}
 use Rattle.dt_words.specs.CommandOf.{gen_names, run_names}
 
--- `Arg::new(name).long(name)`
-abbrev pub option_rule : Text → Rule
-option_rule name = record (new_rule name) { long = Some name }
-
--- the command of these options, and no help
-abbrev pub options_app : Text → List Text → App
-options_app command names = record { top = record (new_shape command) { rules = map option_rule names; disable_help_flag = true }; subs = [] }
-
--- the same as built
+-- an option as built
 abbrev pub ready_rule : Text → Rule
 ready_rule name = filled (option_rule name)
 

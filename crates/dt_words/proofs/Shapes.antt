@@ -4,10 +4,7 @@ use Rattle.std.specs.Prelude.{is_none, if◌then◌else◌}
 use Rattle.std.specs.Str.{bytes_eq}
 use Rattle.clap.specs.Lexer.{long_of, short_of}
 use Rattle.dt_words.specs.Options.{after_hyphens, has_hyphen, name_and_value, option_word}
-
--- the parser means something by the word that no option's word is: `--`, `-`, or short options
-abbrev pub is_stray : List ℕ → Bool
-is_stray word = has_hyphen word && is_none (after_hyphens word)
+use Rattle.dt_words.specs.Parsed.{is_stray}
 
 -- the parser of options reads the word as an option
 pub record IsOption (word : List ℕ) (parts : List ℕ × Option (List ℕ)) : Type 0 where

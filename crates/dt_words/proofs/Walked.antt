@@ -10,7 +10,8 @@ use Rattle.clap.specs.declared.error.kind.ErrorKind.TheVariants as kind
 use Rattle.dt_words.specs.Options.{Given, begun, is_among, options_from, put, without}
 use Rattle.dt_words.proofs.Parser.{FoundAs, by_id, by_long, ready_rule, ready_rules, ready_shape}
 use Rattle.dt_words.proofs.Rows.{IsLeft, one_less, option, rows, use_passes, used_last, used_twice}
-use Rattle.dt_words.proofs.Shapes.{IsOption, IsValue, Reads, is_stray, reads}
+use Rattle.dt_words.proofs.Shapes.{IsOption, IsValue, Reads, reads}
+use Rattle.dt_words.specs.Parsed.{is_stray}
 use Rattle.dt_words.proofs.Turns.{first_passes, idle_at, name_turn, name_walked, nothing_pending, or_assoc, settling_turn, stray_turn, then_passes, unknown_turn, value_pending, value_settled, value_turn, value_walked, waited_turn, waited_walked, waits_at}
 
 -- the faults of the words, and of what is pending after them
@@ -32,7 +33,7 @@ pub record Settles (names : List Text) (h : Held) (given : List Given) : Type 0 
   pub fault : settle_fault (ready_rules names) false h ≡ []
   pub held : (settled (ready_rules names) h).rows ≡ rows given
 
-abbrev waiting_for : Text → List Row → ℕ → Held
+abbrev pub waiting_for : Text → List Row → ℕ → Held
 waiting_for name held skip = record { rows = held; pending = Some (name, []); skip = skip }
 
 put_agrees : (name value : Text) (o : Option (List Given)) (kinds : Kinds) (last : List Row) (given : List Given)
@@ -40,7 +41,7 @@ put_agrees : (name value : Text) (o : Option (List Given)) (kinds : Kinds) (last
 put_agrees name value None kinds last given h = h
 put_agrees name value (Some more) kinds last given h = (h.0, h.1 ∙ ap rows (append_assoc given (option name value ∷ []) more))
 
-agrees_as : (o : Option (List Given)) (k k' : Kinds) (l l' : List Row) (given : List Given) → k' ≡ k → l' ≡ l → Agrees o k l given → Agrees o k' l' given
+pub agrees_as : (o : Option (List Given)) (k k' : Kinds) (l l' : List Row) (given : List Given) → k' ≡ k → l' ≡ l → Agrees o k l given → Agrees o k' l' given
 agrees_as o k k' l l' given ek el h = subst (λ (x : Kinds). Agrees o x l' given) (sym ek) (subst (λ (x : List Row). Agrees o k x given) (sym el) h)
 
 found : (b : Bool) (name : Text) (o : Option Rule) → b ≡ true → FoundAs b name o → o ≡ Some (ready_rule name)
@@ -90,11 +91,11 @@ module _ (command : Text) (names : List Text) where
       → all_kinds command names w (word ∷ words) ≡ all_kinds command names after words
   goes_on w after word words passes e = next_word w word words ∙ ap₂ (λ (k : Kinds) (x : Walk). or_else k (all_kinds command names x words)) passes e
 
-  abbrev Idle : List Text → Type 0
+  abbrev pub Idle : List Text → Type 0
   Idle words = (left : List Text) (given : List Given) (h : Held) → Settles names h given → IsLeft names left given
       → Agrees (options_from words left None) (all_kinds command names (idle_at h) words) (last_rows names (idle_at h) words) given
 
-  abbrev Waits : List Text → Type 0
+  abbrev pub Waits : List Text → Type 0
   Waits words = (left : List Text) (given : List Given) (name : Text) (skip : ℕ) → is_among names name ≡ true → has_row name (rows given) ≡ false
       → ((value : Text) → IsLeft names left (given ++ option name value ∷ []))
       → Agrees (options_from words left (Some name)) (all_kinds command names (waits_at name (waiting_for name (rows given) skip)) words)
@@ -228,7 +229,7 @@ module _ (command : Text) (names : List Text) where
 
   -- ---- all words
 
-  agree : (words : List Text) → list_any is_stray words ≡ false → Idle words × Waits words
+  pub agree : (words : List Text) → list_any is_stray words ≡ false → Idle words × Waits words
   agree [] kept = (
     (λ left given h settles is_left. (no_word (idle_at h) ∙ settles.fault, settles.held ∙ ap rows (sym (append-nil given)))),
     (λ left given name skip known new is_left passes. no_fault _ (sym (nothing_pending command names name (rows given) skip (found _ _ _ known (by_id names name))) ∙ sym (no_word (waits_at name (waiting_for name (rows given) skip))) ∙ passes)),

@@ -7,3 +7,5 @@ pub mod CommandOf
 pub mod Performed
 -- worked examples
 pub mod CommandExamples
+-- how the words are passed on to the parser of options: no public clause names it
+pub mod Parsed
