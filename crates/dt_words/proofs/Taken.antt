@@ -1,18 +1,23 @@
 -- The parser of options, from the words to its answer.
-use Rattle.std.proofs.Common.{◌≡◌, ◌∙◌, ◌||◌, ℕ, Bool, true, false, refl, ap, ap₂, subst, sym, List, [], ◌∷◌, ◌++◌, codes, drop, Option, Some, None, Result, Ok, Err, IfErr, MatchResult}
+use Rattle.std.proofs.Common.{◌≡◌, ◌∙◌, ◌||◌, inl, inr, ℕ, Bool, true, false, refl, ap, ap₂, subst, sym, List, [], ◌∷◌, ◌++◌, codes, drop, Option, Some, None, Result, Ok, Err, IfErr, MatchResult}
 use Rattle.std.specs.Prelude.{fold, if◌then◌else◌, is_none, option_and_then, option_map}
 use Rattle.std.specs.List.{list_any}
 use Rattle.std.specs.Str.{bytes_eq}
 use Rattle.clap.specs.Walk.{Row, first_of, nothing_held, settled, rows_after, rows_of, walk, walk_from}
 use Rattle.clap.specs.Simple.{App, HasMatchesOf, app_of, built, is_simple, matches_of, names_of}
 use Rattle.clap.specs.Matches.{first_value, found_of}
-use Rattle.clap.specs.Kinds.{FailsBy, Kinds, or_else}
+use Rattle.clap.specs.Kinds.{FailsBy, HasKind, IsAmong, Kinds, or_else}
 use Rattle.clap.specs.Faults.{built_fault, fault_of, is_simple_and_free, level_fault, settle_fault, walk_fault}
 use Rattle.clap.specs.declared.parser.matches.ArgMatches.{ArgMatches}
+use Rattle.clap.specs.Values.{kind_of}
+use Rattle.clap.specs.declared.error.Error.{Error}
+use Rattle.clap.specs.declared.error.kind.ErrorKind.TheVariants.{OutOfMemory}
 use Rattle.clap.proofs.FaultLemmas.{leaf_fault}
-use Rattle.clap.proofs.WalkLemmas.{first_value-rows}
+use Rattle.clap.proofs.WalkLemmas.{both, first_value-rows}
 use Rattle.dt_words.specs.Options.{Given, after_hyphens, begun, has_hyphen, is_among, option_word, options_from, options_of, put, value_of, without}
-use Rattle.dt_words.specs.Parsed.{HasGiven, is_stray, options_app}
+use Rattle.dt_words.specs.Parsed.{HasGiven, ParsedBy, is_stray, options_app}
+use Rattle.dt_words.specs.declared.words_fault.WordsFault.{WordsFault}
+use Rattle.dt_words.specs.declared.words_fault.WordsFault.TheVariants.{Usage}
 use Rattle.dt_words.proofs.Parser.{built_app, defaults_add_none, no_check, no_default, ready_rules, ready_shape}
 use Rattle.dt_words.proofs.Rows.{all_left, first_given, rows}
 use Rattle.dt_words.proofs.Turns.{idle_at, or_none}
@@ -43,18 +48,18 @@ taken command names words kept =
 
 -- ---- its two answers
 
-pub given_of : (command : List ℕ) (names words : List (List ℕ)) (m : ArgMatches) → list_any is_stray (drop 1 words) ≡ false
+given_of : (command : List ℕ) (names words : List (List ℕ)) (m : ArgMatches) → list_any is_stray (drop 1 words) ≡ false
     → fault_of (options_app command names) words ≡ [] → rows_of (found_of m) ≡ matches_of (options_app command names) words
-    → (given : List Given) × (options_of names (drop 1 words) ≡ Some given) × HasGiven m given
+    → ParsedBy names (drop 1 words) (Ok m)
 given_of command names words m kept passes held = go (options_of names (drop 1 words)) refl (taken command names words kept)
   where
     go : (o : Option (List Given)) → options_of names (drop 1 words) ≡ o → Agrees o (fault_of (options_app command names) words) (matches_of (options_app command names) words) []
-        → (given : List Given) × (options_of names (drop 1 words) ≡ Some given) × HasGiven m given
+        → ParsedBy names (drop 1 words) (Ok m)
     go None e agrees = absurd (agrees passes)
     go (Some given) e agrees =
         (given, e, λ name. first_value-rows (found_of m) name ∙ ap (first_of name) (held ∙ agrees.1) ∙ first_given name given)
 
-pub none_given : (command : List ℕ) (names words : List (List ℕ)) → list_any is_stray (drop 1 words) ≡ false
+none_given : (command : List ℕ) (names words : List (List ℕ)) → list_any is_stray (drop 1 words) ≡ false
     → (fault_of (options_app command names) words ≡ [] → ⊥) → options_of names (drop 1 words) ≡ None
 none_given command names words kept fails = go (options_of names (drop 1 words)) refl (taken command names words kept)
   where
@@ -62,6 +67,27 @@ none_given command names words kept fails = go (options_of names (drop 1 words))
         → options_of names (drop 1 words) ≡ None
     go None e agrees = e
     go (Some given) e agrees = absurd (fails agrees.0)
+
+-- an error of another kind than want of memory is a fault of the words
+is_fault : (kinds : Kinds) (e : Error) → HasKind kinds e → (kind_of e ≡ OutOfMemory → ⊥) → kinds ≡ [] → ⊥
+is_fault kinds e (inl memory) other none = other memory
+is_fault kinds e (inr among) other none = subst (IsAmong (kind_of e)) none among
+
+pub parsed : (a : App) (texts words : List (List ℕ)) (m : ArgMatches) → texts ≡ words → list_any is_stray (drop 1 words) ≡ false
+    → (is_simple_and_free a ≡ true → FailsBy (fault_of a texts) (Ok m)) → HasMatchesOf a texts m
+    → (command : List ℕ) (names : List (List ℕ)) → a ≡ options_app command names → is_simple_and_free (options_app command names) ≡ true → ParsedBy names (drop 1 words) (Ok m)
+parsed a texts words m same kept kinds held command names is simple =
+    let here : is_simple_and_free a ≡ true = subst (λ (x : App). is_simple_and_free x ≡ true) (sym is) simple in
+    given_of command names words m kept
+    (ap₂ fault_of (sym is) (sym same) ∙ kinds here)
+    ((held (both _ _ here).0).0 ∙ ap₂ matches_of is same)
+
+pub not_parsed : (a : App) (texts words : List (List ℕ)) (e : Error) (fault : WordsFault) → texts ≡ words → list_any is_stray (drop 1 words) ≡ false
+    → (is_simple_and_free a ≡ true → HasKind (fault_of a texts) e) → (fault ≡ Usage → kind_of e ≡ OutOfMemory → ⊥)
+    → (command : List ℕ) (names : List (List ℕ)) → a ≡ options_app command names → is_simple_and_free (options_app command names) ≡ true → ParsedBy names (drop 1 words) (Err fault)
+not_parsed a texts words e fault same kept kinds other command names is simple = λ usage.
+    let here : is_simple_and_free a ≡ true = subst (λ (x : App). is_simple_and_free x ≡ true) (sym is) simple in
+    none_given command names words kept (λ passes. is_fault (fault_of a texts) e (kinds here) (other usage) (ap₂ fault_of is same ∙ passes))
 
 -- ---- a stray word
 

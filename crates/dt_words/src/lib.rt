@@ -5,6 +5,8 @@ mod arg_words;
 mod command;
 mod limits;
 mod number;
+mod options;
+mod reading;
 mod words_fault;
 
 pub use arg_words::ArgWords;
@@ -13,4 +15,5 @@ pub use limits::{
     ENTRIES, ENTRIES_UNLESS_GIVEN, LEAST_PAGES, Limits, PAGES, PAGES_UNLESS_GIVEN, READERS,
     READERS_UNLESS_GIVEN, VERSIONS,
 };
+pub use reading::read_words;
 pub use words_fault::WordsFault;

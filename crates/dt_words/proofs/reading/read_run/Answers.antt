@@ -1,0 +1,20 @@
+use Rattle.std.proofs.Common.{◌≡◌, ◌∙◌, codes, drop}
+use Rattle.dt_words.specs.CommandOf.{run_names, run_of}
+use Rattle.dt_words.proofs.Commands.{read, refused}
+use Rattle.dt_words.proofs.Parser.{run_is_simple}
+use Rattle.dt_words.proofs.reading.read_run.Goals as goal
+
+pub returns-in_err-matches : goal.returns-in_err-matches
+returns-in_err-matches c =
+    refused run_names (drop 1 c.args.words.now) run_of c.from_residual-in_err-matches.result c.in_err-matches.field-0.0 c.from_residual-in_err-matches.ensures.1
+    (c.in_err-matches.ensures (codes "run") run_names c.in_ok-parser.ensures run_is_simple)
+
+pub returns-in-Some : goal.returns-in-Some
+returns-in-Some c =
+    read run_names (drop 1 c.args.words.now) c.in_ok-matches.matches run_of c.run_of.result
+    (c.in_ok-matches.ensures (codes "run") run_names c.in_ok-parser.ensures run_is_simple) c.run_of.ensures ∙ c.in-Some.is
+
+pub returns : goal.returns
+returns c = λ usage.
+    read run_names (drop 1 c.args.words.now) c.in_ok-matches.matches run_of c.run_of.result
+    (c.in_ok-matches.ensures (codes "run") run_names c.in_ok-parser.ensures run_is_simple) c.run_of.ensures ∙ c.in-None.is
