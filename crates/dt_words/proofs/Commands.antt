@@ -33,6 +33,7 @@ stray_command (first ∷ rest) h = go (bytes_eq first (codes "run")) (bytes_eq f
   where
     later : is_stray first ≡ false → list_any is_stray rest ≡ true
     later plain = rw plain at h
+
     go : (x y : Bool) → bytes_eq first (codes "run") ≡ x → bytes_eq first (codes "gen") ≡ y → command_of (first ∷ rest) ≡ None
     go true y ex ey =
         let plain : is_stray first ≡ false = rw (same first (codes "run") ex) refl in

@@ -128,6 +128,7 @@ none_from (word ∷ words) h left waiting = go (is_stray word) refl (none_from w
       where
         later : list_any is_stray words ≡ true
         later = rw e at h
+
         value : (x : Bool) → (if x then None else put name word (options_from words left None)) ≡ None
         value true = refl
         value false = ap (put name word) (others later left None)

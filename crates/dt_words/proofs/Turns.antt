@@ -41,7 +41,6 @@ then_passes [] b h = h
 then_passes (k ∷ ks) b h = absurd (cc)
 
 module _ (command : Text) (names : List Text) where
-
   -- an unknown option is a fault
   pub unknown_turn : (waiting : Waiting) (word name : Text) (value : Option Text) (h : Held) → IsOption word (name, value) → arg_by_long (ready_rules names) name ≡ None
       → turn_fault (ready_shape command names) [] (at waiting h) word ≡ kind.UnknownArgument ∷ []
@@ -88,7 +87,7 @@ module _ (command : Text) (names : List Text) where
 
   pub waited_walked : (word name : Text) (rows : List Row) (skip : ℕ) → IsValue word → arg_by_id (ready_rules names) name ≡ Some (ready_rule name)
       → walked (ready_rules names) [] (waits_at name (record { rows = rows; pending = Some (name, []); skip = skip })) word
-        ≡ idle_at (record { rows = rows; pending = Some (name, word ∷ []); skip = skip })
+      ≡ idle_at (record { rows = rows; pending = Some (name, word ∷ []); skip = skip })
   unfolding walked
   waited_walked word name rows skip is found = rw (is.other, is.long, is.short, found, itself name) refl
 

@@ -70,7 +70,6 @@ no_fault : (k : kind.the_data) → k ∷ [] ≡ [] → ⊥
 no_fault k h = cc
 
 module _ (command : Text) (names : List Text) where
-
   next_word : (w : Walk) (word : Text) (words : List Text)
       → all_kinds command names w (word ∷ words) ≡ or_else (turn_fault (ready_shape command names) [] w word) (all_kinds command names (walked (ready_rules names) [] w word) words)
   unfolding walk_fault
@@ -119,8 +118,10 @@ module _ (command : Text) (names : List Text) where
     where
       before : Walk
       before = waits_at name (waiting_for name given skip)
+
       after : Held
       after = record { rows = given; pending = Some (name, word ∷ []); skip = skip }
+
       go : Reads word → ⊥
       go (inl r) =
           let settles = settling_turn command names (option_waits name) word r.0.0 r.0.1 before.held r.1 (turn_passes before word words passes) in
@@ -147,7 +148,7 @@ module _ (command : Text) (names : List Text) where
           let turn = value_turn command names idle word name value h is known ∙ ap₂ or_else settles.fault (use_passes name value (settled (ready_rules names) h).rows new) in
           let walk = value_walked command names word name value h is known in
           let now : Settles names (reacted (ready_rules names) (ready_rule name) (value ∷ []) h) (given ++ option name value ∷ []) =
-              record { fault = refl; held = ap (used (ready_rule name) (value ∷ [])) settles.held ∙ used_last name value given parts.1 } in
+          record { fault = refl; held = ap (used (ready_rule name) (value ∷ [])) settles.held ∙ used_last name value given parts.1 } in
           agrees_as (put name value (options_from words (without name left) None)) _ _ _ _ given
           (goes_on (idle_at h) _ word words turn walk)
           (ap (λ (w : Walk). last_rows names w words) walk)
@@ -209,8 +210,10 @@ module _ (command : Text) (names : List Text) where
     where
       before : Walk
       before = waits_at name (waiting_for name (rows given) skip)
+
       after : Held
       after = record { rows = rows given; pending = Some (name, word ∷ []); skip = skip }
+
       go : Reads word → Agrees (options_from (word ∷ words) left (Some name)) (all_kinds command names before (word ∷ words)) (last_rows names before (word ∷ words)) given
       go (inl r) = rw r.1.hyphen (λ passes.
           let settles = settling_turn command names (option_waits name) word r.0.0 r.0.1 before.held r.1 (turn_passes before word words passes) in

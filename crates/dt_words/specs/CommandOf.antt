@@ -5,6 +5,7 @@ use Rattle.dt_words.specs.Number.{number_in}
 use Rattle.dt_words.specs.Options.{Given, options_of, value_of}
 use Rattle.dt_words.specs.Limits.{LimitNumbers}
 use Rattle.dt_words.specs.declared.limits.TheConstants.{READERS, READERS_UNLESS_GIVEN, LEAST_PAGES, PAGES, PAGES_UNLESS_GIVEN, ENTRIES, ENTRIES_UNLESS_GIVEN, VERSIONS}
+use Rattle.dt_words.specs.declared.command.TheConstants.{LEAST_GENERATED_CLASSES, GENERATED_CLASSES, GENERATED_SELECTORS}
 use Rattle.dt_words.specs.declared.command.Table.{Table}
 use Rattle.dt_words.specs.declared.command.Table.TheVariants.{Sti, Colour, Row, Mrd}
 use Rattle.dt_words.specs.declared.command.Command.{Command}
@@ -29,6 +30,7 @@ number_or least most unless_given (Some text) = number_in least most text
 
 -- ---- run
 
+-- the options of `run`
 abbrev pub run_names : List (List ℕ)
 run_names = codes "table" ∷ codes "readers" ∷ codes "pages" ∷ codes "limit" ∷ []
 
@@ -42,23 +44,26 @@ limits_of given =
     (number_or LEAST_PAGES PAGES PAGES_UNLESS_GIVEN (value_of (codes "pages") given)))
     (number_or 1 READERS READERS_UNLESS_GIVEN (value_of (codes "readers") given))
 
+-- the command of options of `run`: the table has to be given
 abbrev pub run_of : List Given → Option Command
 run_of given = option_and_then (λ table. option_map (λ limits. Run table limits) (limits_of given))
     (option_and_then table_of (value_of (codes "table") given))
 
 -- ---- gen
 
+-- the options of `gen`
 abbrev pub gen_names : List (List ℕ)
 gen_names = codes "table" ∷ codes "number" ∷ codes "classes" ∷ codes "selectors" ∷ []
 
+-- the command of options of `gen`: all have to be given, and the number has 32 bits
 abbrev pub gen_of : List Given → Option Command
 gen_of given =
     option_and_then (λ table.
     option_and_then (λ number.
     option_and_then (λ classes.
     option_map (λ selectors. Gen table number classes selectors)
-    (given_number 1 4096 (value_of (codes "selectors") given)))
-    (given_number 2 2048 (value_of (codes "classes") given)))
+    (given_number 1 GENERATED_SELECTORS (value_of (codes "selectors") given)))
+    (given_number LEAST_GENERATED_CLASSES GENERATED_CLASSES (value_of (codes "classes") given)))
     (given_number 0 4294967295 (value_of (codes "number") given)))
     (option_and_then table_of (value_of (codes "table") given))
 

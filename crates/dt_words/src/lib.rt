@@ -10,7 +10,9 @@ mod reading;
 mod words_fault;
 
 pub use arg_words::ArgWords;
-pub use command::{Command, Table};
+pub use command::{
+    Command, GENERATED_CLASSES, GENERATED_SELECTORS, LEAST_GENERATED_CLASSES, Table,
+};
 pub use limits::{
     ENTRIES, ENTRIES_UNLESS_GIVEN, LEAST_PAGES, Limits, PAGES, PAGES_UNLESS_GIVEN, READERS,
     READERS_UNLESS_GIVEN, VERSIONS,

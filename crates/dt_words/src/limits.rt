@@ -84,12 +84,20 @@ impl Limits {
         if versions < 1 || VERSIONS < versions {
             return None;
         }
-        Some(Limits {
+        Some(Limits::in_range(readers, pages, entries, versions))
+    }
+
+    // The limits of numbers that are known to be in range.
+    pub(crate) fn in_range(readers: u16, pages: u32, entries: u32, versions: u64) -> Limits
+        requires { IsTrue (are_limits (record { reader_count = readers; page_count = pages; entry_limit = entries; version_limit = versions })) }
+        ensures { result ≡ record { reader_count = readers; page_count = pages; entry_limit = entries; version_limit = versions } }
+    {
+        Limits {
             readers,
             pages,
             entries,
             versions,
-        })
+        }
     }
 
     /// The number of readers that may be out, from 1 to [`READERS`].

@@ -24,15 +24,26 @@ fn is_stray(word: &str) -> bool
     }
 }
 
-// Whether one of the words is no option's word, but begins with a hyphen.
-pub(crate) fn has_stray(words: &[String]) -> bool
-    ensures { result ≡ list_any (λ word. is_stray (string_bytes word)) words.now }
+// Whether one of the texts is such a word.
+fn is_any_stray(texts: &[String]) -> bool
+    ensures { result ≡ list_any (λ text. is_stray (string_bytes text)) texts.now }
 {
-    words.iter().any(|word| is_stray(word.as_str()))
+    texts.iter().any(|text| is_stray(text.as_str()))
+}
+
+// Whether one of the words is no option's word, but begins with a hyphen.
+pub(crate) fn has_stray(words: &ArgWords) -> bool
+    ensures { result ≡ list_any is_stray words.now }
+{
+    is_any_stray(words.texts())
 }
 
 // The parser with one option more.
-fn with_option<'a>(parser: Parser<'a>, alloc: Global, name: &'a str) -> Result<Parser<'a>, AllocError>
+fn with_option<'a>(
+    parser: Parser<'a>,
+    alloc: Global,
+    name: &'a str,
+) -> Result<Parser<'a>, AllocError>
     ensures { IfOk result (λ r. app_of r ≡ with_rule (app_of parser.entry) (option_rule name.entry.now)) }
 {
     parser.arg(Arg::new(alloc, name).long(name))
@@ -76,7 +87,10 @@ fn fault_of(error: &Error) -> WordsFault
 }
 
 // The values of the options that the words write after the first word.
-pub(crate) fn parse<'a>(parser: Parser<'a>, words: &'a ArgWords) -> Result<ArgMatches<'a>, WordsFault>
+pub(crate) fn parse<'a>(
+    parser: Parser<'a>,
+    words: &'a ArgWords,
+) -> Result<ArgMatches<'a>, WordsFault>
     requires { list_any is_stray (drop 1 words.now) ≡ false }
     ensures { (command : List ℕ) (names : List (List ℕ)) → app_of parser.entry ≡ options_app command names
         → is_simple_and_free (options_app command names) ≡ true

@@ -6,7 +6,9 @@ ghost use Rattle.dt_words.specs.Parsed.{HasGiven, is_stray};
 ghost use Rattle.dt_words.specs.declared.words_fault.WordsFault.TheVariants.{Usage};
 
 use crate::arg_words::ArgWords;
-use crate::command::{Command, Table};
+use crate::command::{
+    Command, GENERATED_CLASSES, GENERATED_SELECTORS, LEAST_GENERATED_CLASSES, Table,
+};
 use crate::limits::{
     ENTRIES, ENTRIES_UNLESS_GIVEN, LEAST_PAGES, Limits, PAGES, PAGES_UNLESS_GIVEN, READERS,
     READERS_UNLESS_GIVEN, VERSIONS,
@@ -61,10 +63,25 @@ fn given_number(value: Option<&str>, least: u64, most: u64) -> Option<u64>
 fn limits_of(matches: &ArgMatches<'_>) -> Option<Limits>
     ensures { (given : List Given) → HasGiven matches.now given → result ≡ limits_of given }
 {
-    let readers = number_or(matches.get_str("readers"), 1, READERS as u64, READERS_UNLESS_GIVEN as u64)?;
-    let pages = number_or(matches.get_str("pages"), LEAST_PAGES as u64, PAGES as u64, PAGES_UNLESS_GIVEN as u64)?;
-    let entries = number_or(matches.get_str("limit"), 1, ENTRIES as u64, ENTRIES_UNLESS_GIVEN as u64)?;
-    Limits::new(readers as u16, pages as u32, entries as u32, VERSIONS)
+    let readers = number_or(
+        matches.get_str("readers"),
+        1,
+        READERS as u64,
+        READERS_UNLESS_GIVEN as u64,
+    )?;
+    let pages = number_or(
+        matches.get_str("pages"),
+        LEAST_PAGES as u64,
+        PAGES as u64,
+        PAGES_UNLESS_GIVEN as u64,
+    )?;
+    let entries = number_or(
+        matches.get_str("limit"),
+        1,
+        ENTRIES as u64,
+        ENTRIES_UNLESS_GIVEN as u64,
+    )?;
+    Some(Limits::in_range(readers as u16, pages as u32, entries as u32, VERSIONS))
 }
 
 // The table that the options give.
@@ -88,9 +105,13 @@ fn gen_of(matches: &ArgMatches<'_>) -> Option<Command>
     ensures { (given : List Given) → HasGiven matches.now given → result ≡ gen_of given }
 {
     let table = given_table(matches)?;
-    let number = given_number(matches.get_str("number"), 0, 4_294_967_295)?;
-    let classes = given_number(matches.get_str("classes"), 2, 2_048)?;
-    let selectors = given_number(matches.get_str("selectors"), 1, 4_096)?;
+    let number = given_number(matches.get_str("number"), 0, u32::MAX as u64)?;
+    let classes = given_number(
+        matches.get_str("classes"),
+        LEAST_GENERATED_CLASSES as u64,
+        GENERATED_CLASSES as u64,
+    )?;
+    let selectors = given_number(matches.get_str("selectors"), 1, GENERATED_SELECTORS as u64)?;
     Some(Command::Gen {
         table,
         number: number as u32,
@@ -133,17 +154,17 @@ fn read_gen(alloc: Global, words: &ArgWords) -> Result<Command, WordsFault>
 ///
 /// # Errors
 ///
-/// [`WordsFault::Usage`] where the words write no command, and [`WordsFault::NoMemory`] where no memory was found to
-/// read them: it says nothing of the words.
+/// [`WordsFault::Usage`] exactly where the words write no command and memory was found; [`WordsFault::NoMemory`] where
+/// none was found to read them, which says nothing of the words.
 ///
 /// # Cost
 ///
-/// Each word is looked at a few times; memory for the options, and none per word.
+/// Linear in the bytes of the words; memory for a parser of four options and what they were given, which is given back.
 pub fn read_words(alloc: Global, words: &ArgWords) -> Result<Command, WordsFault>
     ensures command { IfOk result (λ command. command_of words.now ≡ Some command) }
     ensures usage { IfErr result (λ fault. fault ≡ Usage → command_of words.now ≡ None) }
 {
-    if has_stray(words.texts()) {
+    if has_stray(words) {
         return Err(WordsFault::Usage);
     }
     let Some(first) = words.word(1) else {

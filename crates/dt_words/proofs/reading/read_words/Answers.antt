@@ -1,21 +1,12 @@
-use Rattle.std.proofs.Common.{◌≡◌, ◌∙◌, Bool, ap, string_bytes, sym}
-use Rattle.std.specs.List.{list_any}
-use Rattle.clap.proofs.WalkLemmas.{list_any-map}
-use Rattle.dt_words.specs.Parsed.{is_stray}
+use Rattle.std.proofs.Common.{◌≡◌, ◌∙◌, sym}
 use Rattle.dt_words.proofs.Commands.{rest_kept, stray_command}
 use Rattle.dt_words.proofs.reading.read_words.Goals as goal
 
 pub returns-then-has_stray-clause-usage : goal.returns-then-has_stray-clause-usage
-returns-then-has_stray-clause-usage c = λ usage.
-    stray_command c.args.words.now
-    (ap (list_any is_stray) (sym c.texts.ensures) ∙ sym (list_any-map is_stray string_bytes c.texts.result.now) ∙ sym c.has_stray.ensures ∙ c.if-has_stray.true)
+returns-then-has_stray-clause-usage c = λ usage. stray_command c.args.words.now (sym c.has_stray.ensures ∙ c.if-has_stray.true)
 
 pub read_run-requires : goal.read_run-requires
-read_run-requires c =
-    rest_kept c.args.words.now
-    (ap (list_any is_stray) (sym c.texts.ensures) ∙ sym (list_any-map is_stray string_bytes c.texts.result.now) ∙ sym c.has_stray.ensures ∙ c.if-has_stray.false)
+read_run-requires c = rest_kept c.args.words.now (sym c.has_stray.ensures ∙ c.if-has_stray.false)
 
 pub read_gen-requires : goal.read_gen-requires
-read_gen-requires c =
-    rest_kept c.args.words.now
-    (ap (list_any is_stray) (sym c.texts.ensures) ∙ sym (list_any-map is_stray string_bytes c.texts.result.now) ∙ sym c.has_stray.ensures ∙ c.if-has_stray.false)
+read_gen-requires c = rest_kept c.args.words.now (sym c.has_stray.ensures ∙ c.if-has_stray.false)
