@@ -2,9 +2,11 @@
 #![tactic(auto)]
 
 mod log;
+mod print;
 mod status;
 mod turnstile;
 
 pub use log::{CallLine, EditLine, Log, PartLog, PhaseLog, Stamped};
+pub use print::print_log;
 pub use status::Status;
 pub use turnstile::{OpenTurnstile, Turnstile};
