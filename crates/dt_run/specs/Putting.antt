@@ -41,6 +41,11 @@ abbrev pub Put : {E : Type 0} → Result Unit E → Out → Out → List ℕ →
 Put (Ok done) old new text = IsPut old new text
 Put (Err fault) old new text = IsCutOff old new text
 
+-- putting a text to a sink, which tells what it took and how often it failed, through what is held for it
+abbrev pub Puts : {S E : Type 0} → (S → Option (List ℕ)) → (S → ℕ) → Result Unit E → S → List ℕ → S → List ℕ → List ℕ → Type 0
+Puts taken faults result sink held sink' held' text =
+    Put result (out_of (taken sink) (faults sink) held) (out_of (taken sink') (faults sink') held') text
+
 -- each word behind a space
 abbrev pub spaced : List (List ℕ) → List ℕ
 spaced texts = flat_map (λ text. 32 ∷ text) texts

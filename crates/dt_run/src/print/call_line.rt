@@ -3,7 +3,7 @@ ghost use Rattle.dt_script.specs.Word.{Body};
 ghost use Rattle.dt_script.specs.Writing.{word_text};
 ghost use Rattle.dt_run.specs.LogWord.{text_of_keyword};
 ghost use Rattle.dt_run.specs.Text.{words_of_call_line};
-ghost use Rattle.dt_run.specs.Putting.{out_of, Put, line_of, line_text};
+ghost use Rattle.dt_run.specs.Putting.{Puts, line_of, line_text};
 
 use crate::log::{CallLine, Stamped};
 use crate::print::put_buffer::PutBuffer;
@@ -29,7 +29,7 @@ fn put_method<K: Sink>(
     version: u64,
     body: BodyNo,
 ) -> Result<(), Failed>
-    ensures { Put result (out_of (K.taken sink.old) (K.faults sink.old) out.old) (out_of (K.taken sink.new) (K.faults sink.new) out.new) (line_of (codes "call" ∷ decimal caller ∷ decimal version ∷ codes "method" ∷ word_text names.now (Body body) ∷ [])) }
+    ensures { Puts K.taken K.faults result sink.old out.old sink.new out.new (line_of (codes "call" ∷ decimal caller ∷ decimal version ∷ codes "method" ∷ word_text names.now (Body body) ∷ [])) }
 {
     let caller = LogWord::Number(u64::from(caller));
     let words = [
@@ -49,7 +49,7 @@ fn put_told<K: Sink>(
     version: u64,
     keyword: Keyword,
 ) -> Result<(), Failed>
-    ensures { Put result (out_of (K.taken sink.old) (K.faults sink.old) out.old) (out_of (K.taken sink.new) (K.faults sink.new) out.new) (line_of (codes "call" ∷ decimal caller ∷ decimal version ∷ text_of_keyword keyword ∷ [])) }
+    ensures { Puts K.taken K.faults result sink.old out.old sink.new out.new (line_of (codes "call" ∷ decimal caller ∷ decimal version ∷ text_of_keyword keyword ∷ [])) }
 {
     let caller = LogWord::Number(u64::from(caller));
     let words = [caller, LogWord::Number(version), LogWord::Keyword(keyword)];
@@ -64,7 +64,7 @@ fn put_no_class<K: Sink>(
     version: u64,
     place: u8,
 ) -> Result<(), Failed>
-    ensures { Put result (out_of (K.taken sink.old) (K.faults sink.old) out.old) (out_of (K.taken sink.new) (K.faults sink.new) out.new) (line_of (codes "call" ∷ decimal caller ∷ decimal version ∷ codes "no-class" ∷ decimal place ∷ [])) }
+    ensures { Puts K.taken K.faults result sink.old out.old sink.new out.new (line_of (codes "call" ∷ decimal caller ∷ decimal version ∷ codes "no-class" ∷ decimal place ∷ [])) }
 {
     let caller = LogWord::Number(u64::from(caller));
     let version = LogWord::Number(version);
@@ -85,7 +85,7 @@ fn put_called<K: Sink>(
     caller: u16,
     stamped: Stamped,
 ) -> Result<(), Failed>
-    ensures { Put result (out_of (K.taken sink.old) (K.faults sink.old) out.old) (out_of (K.taken sink.new) (K.faults sink.new) out.new) (line_text names.now (words_of_call_line caller (CallLine.Called stamped))) }
+    ensures { Puts K.taken K.faults result sink.old out.old sink.new out.new (line_text names.now (words_of_call_line caller (CallLine.Called stamped))) }
 {
     let version = stamped.version;
     match stamped.reply {
@@ -105,7 +105,7 @@ fn put_answer<K: Sink>(
     version: u64,
     answer: Answer,
 ) -> Result<(), Failed>
-    ensures { Put result (out_of (K.taken sink.old) (K.faults sink.old) out.old) (out_of (K.taken sink.new) (K.faults sink.new) out.new) (line_text names.now (words_of_call_line caller (CallLine.Called (record { version = version; reply = Reply.Answered answer })))) }
+    ensures { Puts K.taken K.faults result sink.old out.old sink.new out.new (line_text names.now (words_of_call_line caller (CallLine.Called (record { version = version; reply = Reply.Answered answer })))) }
 {
     match answer {
         Answer::Method { body } => put_method(out, sink, names, caller, version, body),
@@ -122,7 +122,7 @@ pub(crate) fn put_call_line<K: Sink>(
     caller: u16,
     line: CallLine,
 ) -> Result<(), Failed>
-    ensures { Put result (out_of (K.taken sink.old) (K.faults sink.old) out.old) (out_of (K.taken sink.new) (K.faults sink.new) out.new) (line_text names.now (words_of_call_line caller line)) }
+    ensures { Puts K.taken K.faults result sink.old out.old sink.new out.new (line_text names.now (words_of_call_line caller line)) }
 {
     let worn = LogWord::Keyword(Keyword::Worn);
     let number = LogWord::Number(u64::from(caller));

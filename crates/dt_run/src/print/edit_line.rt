@@ -3,7 +3,7 @@ ghost use Rattle.dt_script.specs.Word.{Class};
 ghost use Rattle.dt_script.specs.Writing.{word_text};
 ghost use Rattle.dt_run.specs.LogWord.{text_of_keyword};
 ghost use Rattle.dt_run.specs.Text.{words_of_edit_line, words_of_why};
-ghost use Rattle.dt_run.specs.Putting.{out_of, Put, spaced, line_of, line_text};
+ghost use Rattle.dt_run.specs.Putting.{Puts, spaced, line_of, line_text};
 
 use crate::log::EditLine;
 use crate::print::put_buffer::PutBuffer;
@@ -27,7 +27,7 @@ fn put_class<K: Sink>(
     word: &[u8],
     class: ClassNo,
 ) -> Result<(), Failed>
-    ensures { Put result (out_of (K.taken sink.old) (K.faults sink.old) out.old) (out_of (K.taken sink.new) (K.faults sink.new) out.new) (32 ∷ (word.now ++ (32 ∷ (word_text names.now (Class class) ++ 10 ∷ [])))) }
+    ensures { Puts K.taken K.faults result sink.old out.old sink.new out.new (32 ∷ (word.now ++ (32 ∷ (word_text names.now (Class class) ++ 10 ∷ [])))) }
 {
     put_spaced(out, sink, word)?;
     put_last(out, sink, name_of_class(names, class))
@@ -40,7 +40,7 @@ fn put_why<K: Sink>(
     names: &NameBook,
     why: &Why,
 ) -> Result<(), Failed>
-    ensures { Put result (out_of (K.taken sink.old) (K.faults sink.old) out.old) (out_of (K.taken sink.new) (K.faults sink.new) out.new) (spaced (map (word_text names.now) (words_of_why why.now)) ++ 10 ∷ []) }
+    ensures { Puts K.taken K.faults result sink.old out.old sink.new out.new (spaced (map (word_text names.now) (words_of_why why.now)) ++ 10 ∷ []) }
 {
     match why.class() {
         Some(class) => put_class(out, sink, names, why.word().as_bytes(), class),
@@ -56,7 +56,7 @@ fn put_refused<K: Sink>(
     at: u32,
     why: Why,
 ) -> Result<(), Failed>
-    ensures { Put result (out_of (K.taken sink.old) (K.faults sink.old) out.old) (out_of (K.taken sink.new) (K.faults sink.new) out.new) (line_text names.now (words_of_edit_line (EditLine.Refused at why))) }
+    ensures { Puts K.taken K.faults result sink.old out.old sink.new out.new (line_text names.now (words_of_edit_line (EditLine.Refused at why))) }
 {
     let at = LogWord::Number(u64::from(at));
     let number = LogWord::Number(u64::from(why.number()));
@@ -71,7 +71,7 @@ fn put_refused<K: Sink>(
 
 // Puts the line of a batch that is told by one word.
 fn put_keyword<K: Sink>(out: &mut PutBuffer, sink: &mut K, keyword: Keyword) -> Result<(), Failed>
-    ensures { Put result (out_of (K.taken sink.old) (K.faults sink.old) out.old) (out_of (K.taken sink.new) (K.faults sink.new) out.new) (line_of (codes "edit" ∷ text_of_keyword keyword ∷ [])) }
+    ensures { Puts K.taken K.faults result sink.old out.old sink.new out.new (line_of (codes "edit" ∷ text_of_keyword keyword ∷ [])) }
 {
     put_line(out, sink, b"edit", &[LogWord::Keyword(keyword)])
 }
@@ -83,7 +83,7 @@ pub(crate) fn put_edit_line<K: Sink>(
     names: &NameBook,
     line: EditLine,
 ) -> Result<(), Failed>
-    ensures { Put result (out_of (K.taken sink.old) (K.faults sink.old) out.old) (out_of (K.taken sink.new) (K.faults sink.new) out.new) (line_text names.now (words_of_edit_line line)) }
+    ensures { Puts K.taken K.faults result sink.old out.old sink.new out.new (line_text names.now (words_of_edit_line line)) }
 {
     match line {
         EditLine::Accepted { version } => {

@@ -2,7 +2,7 @@ ghost use Rattle.std.specs.Prelude.{◌≡◌, ◌≤◌, flat_map, IsTrue, OnOk
 ghost use Rattle.dt_outside.specs.Faults.{IsCounted};
 ghost use Rattle.dt_run.specs.Text.{is_named, words_of_phase_line, words_of_call_line};
 ghost use Rattle.dt_run.specs.Printed.{TookText, TookPrefix};
-ghost use Rattle.dt_run.specs.Putting.{out_of, Put, line_text, edits_text, part_text, phase_text, phases_text, log_text};
+ghost use Rattle.dt_run.specs.Putting.{Puts, line_text, edits_text, part_text, phase_text, phases_text, log_text};
 
 use crate::log::{CallLine, EditLine, Log, PartLog, PhaseLog};
 use crate::print::call_line::put_call_line;
@@ -38,7 +38,7 @@ fn put_log<K: Sink>(
     names: &NameBook,
     log: &Log,
 ) -> Result<(), Failed>
-    ensures { Put result (out_of (K.taken sink.old) (K.faults sink.old) out.old) (out_of (K.taken sink.new) (K.faults sink.new) out.new) (log_text names.now log.now) }
+    ensures { Puts K.taken K.faults result sink.old out.old sink.new out.new (log_text names.now log.now) }
 {
     put_phases(out, sink, names, &log.phases)?;
     put_line(out, sink, b"done", &[LogWord::Number(log.last)])
@@ -51,7 +51,7 @@ fn put_phases<K: Sink>(
     names: &NameBook,
     phases: &[PhaseLog],
 ) -> Result<(), Failed>
-    ensures { Put result (out_of (K.taken sink.old) (K.faults sink.old) out.old) (out_of (K.taken sink.new) (K.faults sink.new) out.new) (phases_text names.now 1 phases.now) }
+    ensures { Puts K.taken K.faults result sink.old out.old sink.new out.new (phases_text names.now 1 phases.now) }
 {
     for (place, phase) in phases.iter().enumerate() {
         put_phase(out, sink, names, place as u64 + 1, phase)?;
@@ -67,7 +67,7 @@ fn put_phase<K: Sink>(
     number: u64,
     phase: &PhaseLog,
 ) -> Result<(), Failed>
-    ensures { Put result (out_of (K.taken sink.old) (K.faults sink.old) out.old) (out_of (K.taken sink.new) (K.faults sink.new) out.new) (phase_text names.now number phase.now) }
+    ensures { Puts K.taken K.faults result sink.old out.old sink.new out.new (phase_text names.now number phase.now) }
 {
     put_phase_line(out, sink, names, number, phase)?;
     put_edit_lines(out, sink, names, &phase.edits)?;
@@ -82,7 +82,7 @@ fn put_phase_line<K: Sink>(
     number: u64,
     phase: &PhaseLog,
 ) -> Result<(), Failed>
-    ensures { Put result (out_of (K.taken sink.old) (K.faults sink.old) out.old) (out_of (K.taken sink.new) (K.faults sink.new) out.new) (line_text names.now (words_of_phase_line number phase.now)) }
+    ensures { Puts K.taken K.faults result sink.old out.old sink.new out.new (line_text names.now (words_of_phase_line number phase.now)) }
 {
     let from = LogWord::Number(phase.from);
     let to = LogWord::Number(phase.to);
@@ -96,7 +96,7 @@ fn put_edit_lines<K: Sink>(
     names: &NameBook,
     lines: &[EditLine],
 ) -> Result<(), Failed>
-    ensures { Put result (out_of (K.taken sink.old) (K.faults sink.old) out.old) (out_of (K.taken sink.new) (K.faults sink.new) out.new) (edits_text names.now lines.now) }
+    ensures { Puts K.taken K.faults result sink.old out.old sink.new out.new (edits_text names.now lines.now) }
 {
     for line in lines {
         put_edit_line(out, sink, names, *line)?;
@@ -111,7 +111,7 @@ fn put_parts<K: Sink>(
     names: &NameBook,
     parts: &[PartLog],
 ) -> Result<(), Failed>
-    ensures { Put result (out_of (K.taken sink.old) (K.faults sink.old) out.old) (out_of (K.taken sink.new) (K.faults sink.new) out.new) (flat_map (part_text names.now) parts.now) }
+    ensures { Puts K.taken K.faults result sink.old out.old sink.new out.new (flat_map (part_text names.now) parts.now) }
 {
     for part in parts {
         put_part(out, sink, names, part)?;
@@ -126,7 +126,7 @@ fn put_part<K: Sink>(
     names: &NameBook,
     part: &PartLog,
 ) -> Result<(), Failed>
-    ensures { Put result (out_of (K.taken sink.old) (K.faults sink.old) out.old) (out_of (K.taken sink.new) (K.faults sink.new) out.new) (part_text names.now part.now) }
+    ensures { Puts K.taken K.faults result sink.old out.old sink.new out.new (part_text names.now part.now) }
 {
     put_call_lines(out, sink, names, part.caller, &part.lines)
 }
@@ -139,7 +139,7 @@ fn put_call_lines<K: Sink>(
     caller: u16,
     lines: &[CallLine],
 ) -> Result<(), Failed>
-    ensures { Put result (out_of (K.taken sink.old) (K.faults sink.old) out.old) (out_of (K.taken sink.new) (K.faults sink.new) out.new) (flat_map (λ line. line_text names.now (words_of_call_line caller line)) lines.now) }
+    ensures { Puts K.taken K.faults result sink.old out.old sink.new out.new (flat_map (λ line. line_text names.now (words_of_call_line caller line)) lines.now) }
 {
     for line in lines {
         put_call_line(out, sink, names, caller, *line)?;

@@ -1,5 +1,5 @@
 ghost use Rattle.std.specs.Prelude.{◌≡◌, ◌+◌, ◌-◌, ◌≤◌, ◌++◌, [], length, OnOk};
-ghost use Rattle.dt_run.specs.Putting.{out_of, Put};
+ghost use Rattle.dt_run.specs.Putting.{Puts};
 
 use dt_outside::{Failed, Sink, put_all};
 use std::marker::Model;
@@ -56,7 +56,7 @@ impl PutBuffer {
 
     // Puts what is held. Where the sink failed, nothing more is to be put.
     pub(crate) fn flush<K: Sink>(&mut self, sink: &mut K) -> Result<(), Failed>
-        ensures put { Put result (out_of (K.taken sink.old) (K.faults sink.old) self.old) (out_of (K.taken sink.new) (K.faults sink.new) self.new) [] }
+        ensures put { Puts K.taken K.faults result sink.old self.old sink.new self.new [] }
         ensures empty { OnOk result (self.new ≡ []) }
     {
         put_all(sink, &self.bytes[..self.len])?;
@@ -67,7 +67,7 @@ impl PutBuffer {
     // Puts bytes, or holds them, where nothing is held yet.
     fn put_first<K: Sink>(&mut self, sink: &mut K, bytes: &[u8]) -> Result<(), Failed>
         requires { self.old ≡ [] }
-        ensures { Put result (out_of (K.taken sink.old) (K.faults sink.old) self.old) (out_of (K.taken sink.new) (K.faults sink.new) self.new) bytes.now }
+        ensures { Puts K.taken K.faults result sink.old self.old sink.new self.new bytes.now }
     {
         if bytes.len() > ROOM {
             return put_all(sink, bytes);
@@ -78,7 +78,7 @@ impl PutBuffer {
 
     // Puts bytes, or holds them. Where the sink failed, nothing more is to be put.
     pub(crate) fn put<K: Sink>(&mut self, sink: &mut K, bytes: &[u8]) -> Result<(), Failed>
-        ensures { Put result (out_of (K.taken sink.old) (K.faults sink.old) self.old) (out_of (K.taken sink.new) (K.faults sink.new) self.new) bytes.now }
+        ensures { Puts K.taken K.faults result sink.old self.old sink.new self.new bytes.now }
     {
         let room = self.room();
         if bytes.len() <= room {

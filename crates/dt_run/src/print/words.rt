@@ -1,6 +1,6 @@
 ghost use Rattle.std.specs.Prelude.{◌≡◌, ◌++◌, ◌∷◌, [], map};
 ghost use Rattle.dt_run.specs.LogWord.{text_of_keyword, text_of_log_word};
-ghost use Rattle.dt_run.specs.Putting.{out_of, Put, spaced_words, line_of};
+ghost use Rattle.dt_run.specs.Putting.{Puts, spaced_words, line_of};
 
 use crate::print::put_buffer::PutBuffer;
 use dt_outside::{Failed, Sink};
@@ -62,7 +62,7 @@ pub(crate) fn put_spaced<K: Sink>(
     sink: &mut K,
     bytes: &[u8],
 ) -> Result<(), Failed>
-    ensures { Put result (out_of (K.taken sink.old) (K.faults sink.old) out.old) (out_of (K.taken sink.new) (K.faults sink.new) out.new) (32 ∷ bytes.now) }
+    ensures { Puts K.taken K.faults result sink.old out.old sink.new out.new (32 ∷ bytes.now) }
 {
     out.put(sink, b" ")?;
     out.put(sink, bytes)
@@ -74,7 +74,7 @@ pub(crate) fn put_last<K: Sink>(
     sink: &mut K,
     bytes: &[u8],
 ) -> Result<(), Failed>
-    ensures { Put result (out_of (K.taken sink.old) (K.faults sink.old) out.old) (out_of (K.taken sink.new) (K.faults sink.new) out.new) (32 ∷ bytes.now ++ 10 ∷ []) }
+    ensures { Puts K.taken K.faults result sink.old out.old sink.new out.new (32 ∷ bytes.now ++ 10 ∷ []) }
 {
     put_spaced(out, sink, bytes)?;
     out.put(sink, b"\n")
@@ -82,7 +82,7 @@ pub(crate) fn put_last<K: Sink>(
 
 // Puts a word behind a space.
 fn put_word<K: Sink>(out: &mut PutBuffer, sink: &mut K, word: &LogWord) -> Result<(), Failed>
-    ensures { Put result (out_of (K.taken sink.old) (K.faults sink.old) out.old) (out_of (K.taken sink.new) (K.faults sink.new) out.new) (32 ∷ text_of_log_word word.now) }
+    ensures { Puts K.taken K.faults result sink.old out.old sink.new out.new (32 ∷ text_of_log_word word.now) }
 {
     match word {
         LogWord::Keyword(keyword) => put_spaced(out, sink, keyword.text().as_bytes()),
@@ -95,7 +95,7 @@ fn put_word<K: Sink>(out: &mut PutBuffer, sink: &mut K, word: &LogWord) -> Resul
 
 // Puts words, each behind a space.
 fn put_words<K: Sink>(out: &mut PutBuffer, sink: &mut K, words: &[LogWord]) -> Result<(), Failed>
-    ensures { Put result (out_of (K.taken sink.old) (K.faults sink.old) out.old) (out_of (K.taken sink.new) (K.faults sink.new) out.new) (spaced_words words.now) }
+    ensures { Puts K.taken K.faults result sink.old out.old sink.new out.new (spaced_words words.now) }
 {
     for word in words {
         put_word(out, sink, word)?;
@@ -110,7 +110,7 @@ pub(crate) fn put_head<K: Sink>(
     first: &[u8],
     words: &[LogWord],
 ) -> Result<(), Failed>
-    ensures { Put result (out_of (K.taken sink.old) (K.faults sink.old) out.old) (out_of (K.taken sink.new) (K.faults sink.new) out.new) (first.now ++ spaced_words words.now) }
+    ensures { Puts K.taken K.faults result sink.old out.old sink.new out.new (first.now ++ spaced_words words.now) }
 {
     out.put(sink, first)?;
     put_words(out, sink, words)
@@ -123,7 +123,7 @@ pub(crate) fn put_line<K: Sink>(
     first: &[u8],
     words: &[LogWord],
 ) -> Result<(), Failed>
-    ensures { Put result (out_of (K.taken sink.old) (K.faults sink.old) out.old) (out_of (K.taken sink.new) (K.faults sink.new) out.new) (line_of (first.now ∷ map text_of_log_word words.now)) }
+    ensures { Puts K.taken K.faults result sink.old out.old sink.new out.new (line_of (first.now ∷ map text_of_log_word words.now)) }
 {
     put_head(out, sink, first, words)?;
     out.put(sink, b"\n")
