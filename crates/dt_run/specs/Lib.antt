@@ -2,6 +2,14 @@ pub mod Log
 pub mod Text
 pub mod TextExamples
 pub mod Printed
+pub mod LogShape
+pub mod Versions
+pub mod Edits
+pub mod CallerLines
+pub mod Calls
+pub mod Outcome
+pub mod OutcomeExamples
+pub mod Playable
 pub mod Status
 pub mod LogWord
 pub mod Putting
