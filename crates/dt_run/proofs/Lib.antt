@@ -1,2 +1,5 @@
 pub mod Putting
 pub mod NamedText
+pub mod HistoryGrows
+pub mod CallersFollow
+pub mod PerformedOutcome

@@ -10,6 +10,7 @@ pub mod Calls
 pub mod Outcome
 pub mod OutcomeExamples
 pub mod Playable
+pub mod Performing
 pub mod Status
 pub mod LogWord
 pub mod Putting

@@ -3,10 +3,12 @@
 
 mod log;
 mod print;
+mod perform;
 mod status;
 mod turnstile;
 
 pub use log::{CallLine, EditLine, Log, PartLog, PhaseLog, Stamped};
 pub use print::print_log;
+pub use perform::perform_script;
 pub use status::Status;
 pub use turnstile::{OpenTurnstile, Turnstile};

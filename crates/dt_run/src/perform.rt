@@ -1,0 +1,112 @@
+ghost use Rattle.std.specs.Prelude.{◌≡◌, ◌+◌, ◌≤◌, ◌<◌, IfOk, OnOk, length, replicate, None};
+ghost use Rattle.std.specs.List.{All};
+ghost use Rattle.dt_run.specs.Outcome.{Outcome};
+ghost use Rattle.dt_run.specs.Playable.{Playable};
+ghost use Rattle.dt_run.specs.Performing.{first_version, at_first, phase_logs, after_phases};
+
+use crate::log::{Log, PhaseLog};
+use crate::turnstile::Turnstile;
+use caller::Caller;
+use current::Current;
+use dt_definitions::{NoMemory, histories_go_on_by_one};
+use dt_script::{Phase, Script};
+use phase::perform_phase;
+use std::alloc::Global;
+
+mod caller;
+mod current;
+mod phase;
+mod snapshot;
+
+// Callers that keep no version, in the places from 0 to the greatest number.
+fn callers_up_to(alloc: Global, greatest: u16) -> Result<Vec<Caller>, NoMemory>
+    ensures { IfOk result (λ callers. callers.items ≡ replicate (greatest + 1) None) }
+{
+    let count = usize::from(greatest) + 1;
+    let mut callers = Vec::with_capacity(alloc, count)?;
+    for _number in 0..count {
+        callers.push(Caller::new())?;
+    }
+    Ok(callers)
+}
+
+// Performs the phases in order, and answers the log of each.
+fn perform_phases<T: Turnstile>(
+    alloc: Global,
+    phases: &[Phase],
+    callers: &mut [Caller],
+    current: &mut Current,
+    limit: u64,
+    turnstile: &T,
+) -> Result<Vec<PhaseLog>, NoMemory>
+    requires fits { All (λ phase. All (λ part. part.caller < length callers.old) phase.callers) phases.now }
+    requires few { current.old.version ≤ limit }
+    ensures logs { IfOk result (λ logs. logs.items
+        ≡ phase_logs limit (record { current = current.old; pins = callers.old }) phases.now) }
+    ensures after { OnOk result (record { current = current.new; pins = callers.new }
+        ≡ after_phases limit (record { current = current.old; pins = callers.old }) phases.now) }
+{
+    let mut logs = Vec::with_capacity(alloc, phases.len())?;
+    for phase in phases {
+        let log = perform_phase(alloc, phase, callers, current, limit, turnstile)?;
+        logs.push(log)?;
+    }
+    Ok(logs)
+}
+
+// Performs the phases in order, with callers up to the number of readers that keep no version at first.
+fn perform_all<T: Turnstile>(
+    alloc: Global,
+    phases: &[Phase],
+    readers: u16,
+    current: &mut Current,
+    limit: u64,
+    turnstile: &T,
+) -> Result<Vec<PhaseLog>, NoMemory>
+    requires fits { All (λ phase. All (λ part. (1 ≤ part.caller) × (part.caller ≤ readers)) phase.callers) phases.now }
+    requires first { current.old ≡ first_version }
+    ensures logs { IfOk result (λ logs. logs.items ≡ phase_logs limit (at_first readers) phases.now) }
+    ensures last { OnOk result (current.new ≡ (after_phases limit (at_first readers) phases.now).current) }
+{
+    let mut callers = callers_up_to(alloc, readers)?;
+    perform_phases(alloc, phases, &mut callers, current, limit, turnstile)
+}
+
+/// Performs a script: each phase in order, its batches and then its callers, one after the other in the script's
+/// order, and each call between the two calls of the turnstile. What happened is the log.
+///
+/// A call is answered at the version that stands, or at the one that its caller keeps since its last `pin`. Of a version
+/// that callers keep there is one copy, whose memory is given back once it isn't the latest and no caller keeps it any more.
+/// There are at most `limit` versions after the first: a batch that comes when there are as many is told so and changes nothing.
+///
+/// Memory is taken for the program, the log and the versions that are kept; calls take none. The time is that of the batches and of
+/// the look-ups, and that of one copy of the program for each version that is kept.
+///
+/// # Errors
+///
+/// [`NoMemory`] where no memory was found.
+pub fn perform_script<T: Turnstile>(
+    alloc: Global,
+    script: &Script,
+    readers: u16,
+    limit: u64,
+    turnstile: &T,
+) -> Result<Log, NoMemory>
+    requires { Playable readers script.now }
+    ensures { IfOk result (λ log. Outcome script.now limit log) }
+{
+    histories_go_on_by_one();
+    let mut current = Current::new(alloc)?;
+    let phases = perform_all(
+        alloc,
+        &script.phases,
+        readers,
+        &mut current,
+        limit,
+        turnstile,
+    )?;
+    Ok(Log {
+        phases,
+        last: current.snapshot().version,
+    })
+}
