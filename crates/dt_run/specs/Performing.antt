@@ -79,6 +79,10 @@ Pins = List (Option Snapshot)
 abbrev pub pin_of : Pins → ℕ → Option Snapshot
 pin_of pins caller = get_or pins caller None
 
+-- the log of a caller before its lines
+abbrev pub room : Part → PartLog
+room part = record { caller = part.caller; lines = [] }
+
 -- the log of a caller in a phase, and what all callers keep after it
 abbrev pub part_log : Snapshot → Pins → Part → PartLog
 part_log here pins part =

@@ -1,6 +1,6 @@
-ghost use Rattle.std.specs.Prelude.{◌≡◌, ◌≤◌, ◌<◌, IfOk, OnOk, length};
+ghost use Rattle.std.specs.Prelude.{◌≡◌, ◌≤◌, ◌<◌, ◌++◌, IfOk, OnOk, length, map};
 ghost use Rattle.std.specs.List.{All};
-ghost use Rattle.dt_run.specs.Performing.{after_batches, edit_lines, call_lines, pin_after_lines, part_logs, with_parts, phase_log, after_phase};
+ghost use Rattle.dt_run.specs.Performing.{after_batches, edit_lines, call_lines, pin_after_lines, room, part_logs, with_parts, phase_log, after_phase};
 
 use crate::log::{CallLine, EditLine, PartLog, PhaseLog};
 use crate::perform::caller::Caller;
@@ -29,54 +29,87 @@ fn perform_edits(
     Ok(lines)
 }
 
-// Performs the lines of the caller with this number in order, and answers what is logged of each.
-fn perform_lines<T: Turnstile>(
-    alloc: Global,
-    number: u16,
-    lines: &[CallerLine],
-    caller: &mut Caller,
-    current: &mut Current,
-    turnstile: &T,
-) -> Result<Vec<CallLine>, NoMemory>
-    ensures lines { IfOk result (λ logged. logged.items ≡ call_lines current.old caller.old lines.now) }
-    ensures pin { OnOk result (caller.new ≡ pin_after_lines current.old caller.old lines.now) }
-    ensures same { current.new ≡ current.old }
-{
-    let mut logged = Vec::with_capacity(alloc, lines.len())?;
-    for line in lines {
-        let call: CallLine = caller.perform(number, line, current, turnstile)?;
-        logged.push(call)?;
-    }
-    Ok(logged)
-}
-
-// Performs the callers of a phase in order, and answers the log of each.
-fn perform_parts<T: Turnstile>(
-    alloc: Global,
-    parts: &[Part],
-    callers: &mut [Caller],
-    current: &mut Current,
-    turnstile: &T,
-) -> Result<Vec<PartLog>, NoMemory>
-    requires { All (λ part. part.caller < length callers.old) parts.now }
-    ensures logs { IfOk result (λ logs. logs.items ≡ part_logs current.old callers.old parts.now) }
-    ensures pins { OnOk result (callers.new ≡ with_parts current.old callers.old parts.now) }
-    ensures same { current.new ≡ current.old }
+// A log for each caller of a phase, with room for its lines.
+fn room_for(alloc: Global, parts: &[Part]) -> Result<Vec<PartLog>, NoMemory>
+    ensures { IfOk result (λ logs. logs.items ≡ map room parts.now) }
 {
     let mut logs = Vec::with_capacity(alloc, parts.len())?;
     for part in parts {
-        let number = part.caller;
-        let caller = &mut callers[usize::from(number)];
-        let lines = perform_lines(alloc, number, &part.lines, caller, current, turnstile)?;
+        let lines = Vec::with_capacity(alloc, part.lines.len())?;
         logs.push(PartLog {
-            caller: number,
+            caller: part.caller,
             lines,
         })?;
     }
     Ok(logs)
 }
 
-// Performs a phase: its batches, and then its callers at the version after them.
+// Performs the lines of the caller with this number in order, and puts what is logged of each behind the others.
+fn perform_lines<T: Turnstile>(
+    number: u16,
+    lines: &[CallerLine],
+    caller: &mut Caller,
+    current: &mut Current,
+    turnstile: &T,
+    logged: &mut Vec<CallLine>,
+) -> Result<(), NoMemory>
+    ensures lines { OnOk result (logged.new.items ≡ logged.old.items ++ call_lines current.old caller.old lines.now) }
+    ensures pin { OnOk result (caller.new ≡ pin_after_lines current.old caller.old lines.now) }
+    ensures same { current.new ≡ current.old }
+{
+    for line in lines {
+        let call: CallLine = caller.perform(number, line, current, turnstile)?;
+        logged.push(call)?;
+    }
+    Ok(())
+}
+
+// Performs a caller of a phase, whose log has no line yet.
+fn perform_part<T: Turnstile>(
+    part: &Part,
+    caller: &mut Caller,
+    current: &mut Current,
+    turnstile: &T,
+    log: &mut PartLog,
+) -> Result<(), NoMemory>
+    requires { log.old ≡ room part.now }
+    ensures log { OnOk result (log.new ≡ record { caller = part.now.caller; lines = call_lines current.old caller.old part.now.lines }) }
+    ensures pin { OnOk result (caller.new ≡ pin_after_lines current.old caller.old part.now.lines) }
+    ensures same { current.new ≡ current.old }
+{
+    perform_lines(
+        part.caller,
+        &part.lines,
+        caller,
+        current,
+        turnstile,
+        &mut log.lines,
+    )
+}
+
+// Performs the callers of a phase in order, each with the room for its lines.
+fn perform_parts<T: Turnstile>(
+    parts: &[Part],
+    callers: &mut [Caller],
+    current: &mut Current,
+    turnstile: &T,
+    logs: &mut [PartLog],
+) -> Result<(), NoMemory>
+    requires fits { All (λ part. part.caller < length callers.old) parts.now }
+    requires room { logs.old ≡ map room parts.now }
+    ensures logs { OnOk result (logs.new ≡ part_logs current.old callers.old parts.now) }
+    ensures pins { OnOk result (callers.new ≡ with_parts current.old callers.old parts.now) }
+    ensures same { current.new ≡ current.old }
+{
+    for (place, part) in parts.iter().enumerate() {
+        let caller = &mut callers[usize::from(part.caller)];
+        perform_part(part, caller, current, turnstile, &mut logs[place])?;
+    }
+    Ok(())
+}
+
+// Performs a phase: its batches, and then its callers at the version after them. The room for their lines is made
+// before.
 pub(crate) fn perform_phase<T: Turnstile>(
     alloc: Global,
     phase: &Phase,
@@ -93,12 +126,13 @@ pub(crate) fn perform_phase<T: Turnstile>(
     ensures few { OnOk result (current.new.version ≤ limit) }
 {
     let from = current.snapshot().version;
+    let mut logs = room_for(alloc, &phase.callers)?;
     let edits = perform_edits(alloc, current, &phase.edits, limit)?;
-    let callers = perform_parts(alloc, &phase.callers, callers, current, turnstile)?;
+    perform_parts(&phase.callers, callers, current, turnstile, &mut logs)?;
     Ok(PhaseLog {
         from,
         to: current.snapshot().version,
         edits,
-        callers,
+        callers: logs,
     })
 }
