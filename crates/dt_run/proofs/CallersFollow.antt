@@ -10,7 +10,7 @@ use Rattle.dt_script.specs.declared.line.CallerLine.{CallerLine}
 use Rattle.dt_script.specs.declared.line.CallerLine.TheVariants.{Call, Pin, Unpin}
 use Rattle.dt_run.specs.CallerLines.{CallerEntry, line_entries, part_entries}
 use Rattle.dt_run.specs.Calls.{Follows}
-use Rattle.dt_run.specs.Playable.{lines_in, Alternate}
+use Rattle.dt_script.specs.Playable.{lines_in, Alternate}
 use Rattle.dt_run.specs.Performing.{Pins, pin_of, call_lines, pin_after_lines, with_part, with_parts, part_logs}
 use Rattle.dt_run.specs.declared.perform.snapshot.Snapshot.{Snapshot}
 use Rattle.dt_run.proofs.HistoryGrows.{History}

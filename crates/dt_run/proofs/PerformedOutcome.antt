@@ -13,7 +13,7 @@ use Rattle.dt_run.specs.Edits.{HasEdits}
 use Rattle.dt_run.specs.CallerLines.{entries_of, callers_of}
 use Rattle.dt_run.specs.Calls.{Follows}
 use Rattle.dt_run.specs.Outcome.{Outcome}
-use Rattle.dt_run.specs.Playable.{lines_through, Playable}
+use Rattle.dt_script.specs.Playable.{lines_through, Playable}
 use Rattle.dt_run.specs.Performing.{Pins, pin_of, call_lines, pin_by, part_logs, with_part, with_parts, edit_lines, Standing, edited, phase_logs, after_phase, after_phases, first_version, at_first}
 use Rattle.dt_run.specs.declared.perform.snapshot.Snapshot.{Snapshot}
 use Rattle.dt_run.proofs.HistoryGrows.{History, StandsOn, program_at, stands_after, numbered, as_many, edits_are}

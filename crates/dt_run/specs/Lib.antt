@@ -1,16 +1,19 @@
+-- To be read first, in this order: a log, its shape for a script, its versions, its edits, the lines of each caller, its
+-- calls, and so what an outcome is; the words and the text of a log, and what a sink took of it.
 pub mod Log
-pub mod Text
-pub mod TextExamples
-pub mod Printed
 pub mod LogShape
 pub mod Versions
 pub mod Edits
 pub mod CallerLines
 pub mod Calls
 pub mod Outcome
-pub mod OutcomeExamples
-pub mod Playable
-pub mod Performing
+pub mod Text
+pub mod Printed
 pub mod Status
+-- Worked examples.
+pub mod OutcomeExamples
+pub mod TextExamples
+-- How it is made: no clause of a public call speaks of these.
+pub mod Performing
 pub mod LogWord
 pub mod Putting

@@ -2,13 +2,13 @@
 #![tactic(auto)]
 
 mod log;
-mod print;
 mod perform;
+mod print;
 mod status;
 mod turnstile;
 
 pub use log::{CallLine, EditLine, Log, PartLog, PhaseLog, Stamped};
-pub use print::print_log;
 pub use perform::perform_script;
+pub use print::print_log;
 pub use status::Status;
 pub use turnstile::{OpenTurnstile, Turnstile};

@@ -1,7 +1,7 @@
 ghost use Rattle.std.specs.Prelude.{◌≡◌, ◌+◌, ◌≤◌, ◌<◌, IfOk, OnOk, length, replicate, None};
 ghost use Rattle.std.specs.List.{All};
 ghost use Rattle.dt_run.specs.Outcome.{Outcome};
-ghost use Rattle.dt_run.specs.Playable.{Playable};
+ghost use Rattle.dt_script.specs.Playable.{Playable};
 ghost use Rattle.dt_run.specs.Performing.{first_version, at_first, phase_logs, after_phases};
 
 use crate::log::{Log, PhaseLog};
