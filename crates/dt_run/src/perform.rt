@@ -72,15 +72,17 @@ fn perform_all<T: Turnstile>(
     perform_phases(alloc, phases, &mut callers, current, limit, turnstile)
 }
 
-/// Performs a script: each phase in order, its batches and then its callers, one after the other in the script's
-/// order, and each call between the two calls of the turnstile. What happened is the log.
+/// Performs a script with callers up to the number of readers: each phase in order, its batches and then its callers,
+/// one after the other in the script's order, and each call between the two calls of the turnstile. What happened is the
+/// log.
 ///
 /// A call is answered at the version that stands, or at the one that its caller keeps since its last `pin`. Of a version
-/// that callers keep there is one copy, whose memory is given back once it isn't the latest and no caller keeps it any more.
-/// There are at most `limit` versions after the first: a batch that comes when there are as many is told so and changes nothing.
+/// that callers keep there is one copy; its memory is given back once a later version stands and no caller keeps it any
+/// more. There are at most `limit` versions after the first: a batch that comes when there are as many is told so and
+/// changes nothing.
 ///
-/// Memory is taken for the program, the log and the versions that are kept; calls take none. The time is that of the batches and of
-/// the look-ups, and that of one copy of the program for each version that is kept.
+/// Memory is taken for the program, the log and the versions that are kept; a call takes none. The time is that of the
+/// batches and of the look-ups, and that of one copy of the program for each version that is kept.
 ///
 /// # Errors
 ///
