@@ -9,10 +9,12 @@ use Rattle.std.proofs.Math.Seq.{take-append_seam}
 use Rattle.dt_outside.specs.Faults.{IsCounted}
 use Rattle.dt_outside.specs.Putting.{AppendsPrefix}
 use Rattle.dt_script.specs.NameBook.{NameBook}
+use Rattle.dt_script.specs.Named.{has_text}
 use Rattle.dt_script.specs.Word.{Word, text_of_word}
 use Rattle.dt_script.specs.Writing.{word_text}
 use Rattle.dt_run.specs.Log.{Log, PhaseLog, PartLog}
-use Rattle.dt_run.specs.Text.{text_of, text_of_line, is_named, has_text, all_of, put_first, lines_of, lines_of_phases, lines_of_phase, lines_of_part, words_of_edit_line, words_of_call_line, words_of_phase_line, words_of_done_line}
+use Rattle.dt_run.specs.Text.{text_of, text_of_line, is_named, all_of, put_first, lines_of, lines_of_phases, lines_of_phase, lines_of_part, words_of_edit_line, words_of_call_line, words_of_phase_line, words_of_done_line}
+use Rattle.dt_run.specs.TextLaws.{TextWhereNamed}
 use Rattle.dt_run.specs.Printed.{TookText, TookPrefix}
 use Rattle.dt_run.specs.Putting.{Out, out_of, IsPut, IsCutOff, Put, line_text, part_text, phase_text, phases_text, log_text}
 use Rattle.dt_run.proofs.Putting.{then_more, stopped}
@@ -75,7 +77,7 @@ phases_lines book number (phase ∷ phases) =
     ∙ ap (λ l. l ++ flat_map (line_text book) (lines_of_phases (number + 1) phases)) (phase_lines book number phase)
     ∙ ap (λ l. phase_text book number phase ++ l) (phases_lines book (number + 1) phases)
 
-log_lines : (book : NameBook) (log : Log) → flat_map (line_text book) (lines_of log) ≡ log_text book log
+pub log_lines : (book : NameBook) (log : Log) → flat_map (line_text book) (lines_of log) ≡ log_text book log
 log_lines book log =
     flat_map-append (line_text book) (lines_of_phases 1 log.phases) (words_of_done_line log.last ∷ [])
     ∙ ap (λ l. l ++ flat_map (line_text book) (words_of_done_line log.last ∷ [])) (phases_lines book 1 log.phases)
@@ -117,6 +119,32 @@ concat_map f (x ∷ xs) = ap (λ l. f x ++ l) (concat_map f xs)
 pub named_text : (book : NameBook) (log : Log) → IsTrue (is_named book log) → text_of book log ≡ Some (log_text book log)
 named_text book log named =
     ap (option_map concat) (named_lines book (lines_of log) named) ∙ ap Some (concat_map (line_text book) (lines_of log) ∙ log_lines book log)
+
+-- ---- where a number has none
+
+there_or_not : {A B : Type 0} (f : A → B) (o : Option A) → is_some (option_map f o) ≡ is_some o
+there_or_not f None = refl
+there_or_not f (Some x) = refl
+
+first_and_rest : {A : Type 0} (o : Option A) (os : Option (List A)) → is_some (put_first o os) ≡ (is_some o && is_some os)
+first_and_rest None os = refl
+first_and_rest (Some x) None = refl
+first_and_rest (Some x) (Some xs) = refl
+
+all_there : {X A : Type 0} (f : X → Option A) (xs : List X) → is_some (all_of (map f xs)) ≡ list_all (λ x. is_some (f x)) xs
+all_there f [] = refl
+all_there f (x ∷ xs) = first_and_rest (f x) (all_of (map f xs)) ∙ ap (λ b. is_some (f x) && b) (all_there f xs)
+
+lines_there : (book : NameBook) (lines : List (List Word)) → list_all (λ words. is_some (text_of_line book words)) lines ≡ list_all (list_all (has_text book)) lines
+lines_there book [] = refl
+lines_there book (words ∷ lines) =
+    ap (λ b. b && list_all (λ ws. is_some (text_of_line book ws)) lines)
+    (there_or_not (λ texts. join_with_byte 32 texts ++ 10 ∷ []) (all_of (map (text_of_word book) words)) ∙ all_there (text_of_word book) words)
+    ∙ ap (λ b. list_all (has_text book) words && b) (lines_there book lines)
+
+pub text_where_named : TextWhereNamed
+text_where_named book log =
+    there_or_not concat (all_of (map (text_of_line book) (lines_of log))) ∙ all_there (text_of_line book) (lines_of log) ∙ lines_there book (lines_of log)
 
 -- ---- what the sink took
 

@@ -1,5 +1,5 @@
 -- To be read first, in this order: a log, its shape for a script, its versions, its edits, the lines of each caller, its
--- calls, and so what an outcome is; the words and the text of a log, and what a sink took of it.
+-- calls, and so what an outcome is; the words and the text of a log, what a sink took of it, and what it tells of the log.
 pub mod Log
 pub mod LogShape
 pub mod Versions
@@ -9,6 +9,8 @@ pub mod Calls
 pub mod Outcome
 pub mod Text
 pub mod Printed
+pub mod Shape
+pub mod TextLaws
 pub mod Status
 -- Worked examples.
 pub mod OutcomeExamples

@@ -1,5 +1,5 @@
 -- The text of a log: the words of each of its lines as one table, its lines in their order, and their text.
-use Rattle.std.specs.Prelude.{ℕ, ◌+◌, Bool, List, [], ◌∷◌, ◌++◌, map, flat_map, codes, Option, None, Some, is_some}
+use Rattle.std.specs.Prelude.{ℕ, ◌+◌, Bool, List, [], ◌∷◌, ◌++◌, map, flat_map, codes, Option, None, Some}
 use Rattle.std.specs.List.{concat, join_with_byte, list_all}
 use Rattle.std.specs.Option.{option_map}
 use Rattle.dt_definitions.specs.declared.why.Why.{Why}
@@ -8,6 +8,7 @@ use Rattle.dt_scratch.specs.declared.reply.Answer.TheVariants.{Method, NotUnders
 use Rattle.dt_scratch.specs.declared.reply.Reply.{Reply}
 use Rattle.dt_scratch.specs.declared.reply.Reply.TheVariants.{NoSelector, WrongArity, NoClass, Answered}
 use Rattle.dt_script.specs.NameBook.{NameBook}
+use Rattle.dt_script.specs.Named.{has_text}
 use Rattle.dt_script.specs.Word.{Word, Plain, Number, Class, Body, text_of_word}
 use Rattle.dt_run.specs.Log.{Log, PhaseLog, PartLog}
 use Rattle.dt_run.specs.declared.log.CallLine.{CallLine}
@@ -98,10 +99,6 @@ text_of_line book words =
 -- the text of a log, if each number in it has a name
 abbrev pub text_of : NameBook → Log → Option (List ℕ)
 text_of book log = option_map concat (all_of (map (text_of_line book) (lines_of log)))
-
--- whether the word is none of the book's names, or the name of a number that has one
-abbrev pub has_text : NameBook → Word → Bool
-has_text book word = is_some (text_of_word book word)
 
 -- whether each number in the log has a name
 abbrev pub is_named : NameBook → Log → Bool

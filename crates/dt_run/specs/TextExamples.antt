@@ -1,6 +1,8 @@
--- Small worked examples of the texts of logs: each kind of line, the order of lines, and numbers without a name.
+-- Small worked examples of the texts of logs: each kind of line, the order of lines, numbers without a name, what a sink
+-- took, and what a text tells of its log.
 use Rattle.std.specs.Prelude.{◌≡◌, List, ℕ, [], ◌∷◌, map, codes, Option, None, Some, true, false, refl}
 use Rattle.std.specs.Fmt.{digits}
+use Rattle.std.proofs.Common.{lit≤}
 use Rattle.std.specs.List.{concat}
 use Rattle.std.specs.Option.{option_map}
 use Rattle.dt_definitions.specs.declared.why.Why.TheVariants.{ClassExists, ClassUnknown, ParentTwice, TooManyParents, HasSubclasses, LinkExists, LinkUnknown, Cycle, SelectorExists, SelectorUnknown, ArityDiffers, NoDefinition, HasDefinitions, DefinitionsFull}
@@ -10,6 +12,9 @@ use Rattle.dt_script.specs.NameBook.{NameBook, empty_book}
 use Rattle.dt_script.specs.Word.{Word}
 use Rattle.dt_run.specs.Log.{Log}
 use Rattle.dt_run.specs.Text.{words_of_edit_line, words_of_call_line, lines_of_part, lines_of_phase, all_of, text_of_line, text_of, is_named}
+use Rattle.dt_run.specs.Printed.{TookText, TookPrefix}
+use Rattle.dt_run.specs.Shape.{SameShape}
+use Rattle.dt_run.specs.TextLaws.{is_in_range}
 use Rattle.dt_run.specs.declared.log.CallLine.TheVariants.{Called, CallWorn, PinnedAt, PinWorn, Unpinned}
 use Rattle.dt_run.specs.declared.log.EditLine.TheVariants.{Accepted, Refused, VersionsFull, CellsFull, RowsFull, NoPages}
 
@@ -106,3 +111,41 @@ silent_caller : text_of empty_book (record { phases = record { from = 0; to = 0;
     ≡ text_of empty_book (record { phases = record { from = 0; to = 0; edits = []; callers = [] } ∷ []; last = 0 })
 unfolding digits
 silent_caller = refl
+
+-- ---- what a sink took
+
+took_the_text : TookText two_classes (of_body 1) (Some (codes "# ")) (Some (codes "# phase 1 0 0\ncall 1 0 method fb\ndone 0\n"))
+unfolding digits
+took_the_text = (codes "phase 1 0 0\ncall 1 0 method fb\ndone 0\n", refl, refl)
+
+took_a_prefix : TookPrefix two_classes (of_body 1) (Some []) (Some (codes "phase 1"))
+unfolding digits
+took_a_prefix = (codes "phase 1 0 0\ncall 1 0 method fb\ndone 0\n", refl, (7, lit≤ tt, refl))
+
+nothing_of_a_log_without_a_text : TookPrefix two_classes (of_body 2) (Some []) (Some []) → ⊥
+unfolding digits
+nothing_of_a_log_without_a_text (text, is, prefix) = absurd cc
+
+-- ---- what a text tells
+
+-- two logs of one shape
+one_shape : SameShape (of_body 0) (of_body 1)
+one_shape = ((refl, ((refl, refl), tt)), tt)
+
+-- other callers are another shape, and so are batches where there are none
+other_callers : SameShape (of_body 0) (of_class 0) → ⊥
+other_callers ((edits, callers), none) = absurd callers
+
+other_batches : SameShape phases_of_two (of_class 0) → ⊥
+other_batches (first, none) = absurd none
+
+-- two bodies of one name can't be told from each other
+abbrev one_name_twice : NameBook
+one_name_twice = record { classes = []; selectors = []; bodies = codes "fa" ∷ codes "fa" ∷ [] }
+
+same_text_of_two : text_of one_name_twice (of_body 0) ≡ text_of one_name_twice (of_body 1)
+unfolding digits
+same_text_of_two = refl
+
+numbers_of_64_bits : is_in_range (of_body 0) ≡ true
+numbers_of_64_bits = refl

@@ -1,12 +1,14 @@
 //! Performing whole scripts: from a script to the log of what happened, and from a log to its text.
 #![tactic(auto)]
 
+mod laws;
 mod log;
 mod perform;
 mod print;
 mod status;
 mod turnstile;
 
+pub use laws::logs_are_determined_by_their_texts;
 pub use log::{CallLine, EditLine, Log, PartLog, PhaseLog, Stamped};
 pub use perform::perform_script;
 pub use print::print_log;

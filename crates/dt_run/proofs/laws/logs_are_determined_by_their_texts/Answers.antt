@@ -1,0 +1,6 @@
+use Rattle.dt_run.proofs.NamedText.{text_where_named}
+use Rattle.dt_run.proofs.SameLogs.{determined_by_text}
+use Rattle.dt_run.proofs.laws.logs_are_determined_by_their_texts.Goals as goal
+
+pub returns : goal.returns
+returns c = record { named = text_where_named; determined = determined_by_text }
