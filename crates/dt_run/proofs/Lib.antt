@@ -2,6 +2,7 @@ pub mod Putting
 pub mod NamedText
 pub mod TextCut
 pub mod LineDecode
+pub mod OneShape
 pub mod SameLogs
 pub mod HistoryGrows
 pub mod CallersFollow

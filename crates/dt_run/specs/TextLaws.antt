@@ -3,8 +3,10 @@ use Rattle.std.specs.Prelude.{◌≡◌, ◌^◌, Bool, true, nat_lt, IsTrue, is
 use Rattle.std.specs.List.{list_all}
 use Rattle.dt_script.specs.NameBook.{NameBook}
 use Rattle.dt_script.specs.LawfulBook.{LawfulBook}
+use Rattle.dt_script.specs.Script.{Script}
 use Rattle.dt_script.specs.Word.{Word, Number}
 use Rattle.dt_run.specs.Log.{Log}
+use Rattle.dt_run.specs.LogShape.{HasShape}
 use Rattle.dt_run.specs.Text.{lines_of, text_of, is_named}
 use Rattle.dt_run.specs.Shape.{SameShape}
 
@@ -20,6 +22,10 @@ is_in_range log = list_all (list_all is_word_in_range) (lines_of log)
 -- A log has a text exactly where each number in it has a name.
 abbrev pub TextWhereNamed : Type 0
 TextWhereNamed = (book : NameBook) (log : Log) → is_some (text_of book log) ≡ is_named book log
+
+-- Logs of one script have one shape.
+abbrev pub OneShapeOfScript : Type 0
+OneShapeOfScript = (script : Script) (a b : Log) → HasShape script.phases a.phases → HasShape script.phases b.phases → SameShape a b
 
 -- A log is determined by its text: two of one shape, whose numbers have names, are equal where their texts are.
 abbrev pub DeterminedByText : Type 0
