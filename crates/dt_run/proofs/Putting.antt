@@ -18,10 +18,6 @@ appends_more (Some xs) None new a b first second = absurd first
 appends_more (Some xs) (Some ys) None a b first second = absurd second
 appends_more (Some xs) (Some ys) (Some zs) a b first second = second ∙ ap (λ l. l ++ b) first ∙ append_assoc xs a b
 
-pub appends_none : (taken : Option (List ℕ)) → Appends taken taken []
-appends_none None = tt
-appends_none (Some xs) = sym (append-nil xs)
-
 -- a text is split at two places
 split_twice : (h a f h' b f' r : List ℕ) → h ++ a ≡ f ++ h' → h' ++ b ≡ f' ++ r → h ++ (a ++ b) ≡ (f ++ f') ++ r
 split_twice h a f h' b f' r e e' =
@@ -78,10 +74,6 @@ pub put_at_once : {E : Type 0} (r : Result Unit E) (before after : Option (List 
 put_at_once (Ok done) before after faults faults' text taken prefix counted counts = (record { front = text; appended = taken; split = sym (append-nil text) }, counted)
 put_at_once (Err fault) before after faults faults' text taken prefix counted counts =
     front_of_prefix (Err fault) (out_of before faults []) (out_of after faults' []) text refl prefix counted counts
-
--- nothing was put yet
-pub nothing_yet : (s : Out) → IsPut s s []
-nothing_yet s = (record { front = []; appended = appends_none s.taken; split = append-nil s.held }, refl)
 
 -- the first word, and then each further one behind a space
 pub join_spaced : (word : List ℕ) (words : List (List ℕ)) → join_with_byte 32 (word ∷ words) ≡ word ++ spaced words
