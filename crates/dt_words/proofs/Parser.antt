@@ -1,14 +1,14 @@
 -- The options of a command as the parser of options reads them: each has a long name and takes one value.
 use Rattle.std.proofs.Common.{◌≡◌, ◌∙◌, ℕ, Bool, ◌&&◌, ◌||◌, true, false, not, refl, ap, List, [], ◌∷◌, map, Option, Some, None}
-use Rattle.std.specs.Prelude.{codes, find, fold, is_some, if◌then◌else◌}
-use Rattle.std.specs.List.{list_all, list_any}
+use Rattle.std.specs.Prelude.{codes, fold, if◌then◌else◌}
+use Rattle.std.specs.List.{list_any}
 use Rattle.std.specs.Str.{bytes_eq}
 use Rattle.std.proofs.lemmas.Slice.Eq.{bytes_eq-Decides}
 use Rattle.clap.specs.Walk.{Rule, Row, Text, arg_by_id, arg_by_index, arg_by_long, has_row, with_default}
-use Rattle.clap.specs.Simple.{App, Shape, built, filled, filled_from, new_rule, new_shape}
+use Rattle.clap.specs.Simple.{App, Shape, built, filled, filled_from, new_shape}
 use Rattle.clap.specs.Kinds.{or_else}
 use Rattle.clap.specs.Takes.{is_given}
-use Rattle.clap.specs.Faults.{is_simple_and_free, check_fault, defaults_fault, default_fault}
+use Rattle.clap.specs.Faults.{is_simple_and_free, check_fault, defaults_fault}
 use Rattle.dt_words.specs.Options.{is_among}
 use Rattle.dt_words.specs.Parsed.{option_rule, options_app}
 use Rattle.dt_words.specs.CommandOf.{gen_names, run_names}

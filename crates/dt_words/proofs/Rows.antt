@@ -1,13 +1,10 @@
 -- What the parser of options keeps of the options that were given.
-use Rattle.std.proofs.Common.{◌≡◌, ◌∙◌, ℕ, Bool, ◌&&◌, ◌||◌, true, false, not, cond, refl, ap, subst, sym, arith, List, [], ◌∷◌, ◌++◌, map, Option, Some, None}
-use Rattle.std.specs.Prelude.{find, filter, option_map, option_and_then, slice_get, if◌then◌else◌}
-use Rattle.std.specs.List.{list_any}
+use Rattle.std.proofs.Common.{◌≡◌, ◌∙◌, Bool, ◌&&◌, ◌||◌, true, false, not, refl, ap, subst, sym, List, [], ◌∷◌, ◌++◌, map, Some, None}
 use Rattle.std.specs.Str.{bytes_eq}
 use Rattle.std.proofs.lemmas.List.{append-nil, map_push}
 use Rattle.std.proofs.Math.Bool.{or_assoc}
-use Rattle.clap.specs.Walk.{Rule, Row, Text, at_row, first_of, has_row, more_values, used, without as without_row}
+use Rattle.clap.specs.Walk.{Row, Text, at_row, first_of, has_row, more_values, used, without as without_row}
 use Rattle.clap.specs.Values.{reading_of}
-use Rattle.clap.specs.Kinds.{Kinds, or_else}
 use Rattle.clap.specs.Faults.{use_fault}
 use Rattle.clap.specs.declared.builder.value_parser.ValueParser.TheVariants as vp
 use Rattle.clap.specs.declared.error.kind.ErrorKind.TheVariants as kind

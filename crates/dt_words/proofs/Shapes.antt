@@ -1,6 +1,5 @@
 -- A word that isn't refused before the parser of options sees it is an option's word or begins with no hyphen.
-use Rattle.std.proofs.Common.{◌≡◌, ℕ, Bool, ◌&&◌, ◌==◌, ◌⊎◌, inl, inr, true, false, not, cond, refl, ap, List, [], ◌∷◌, Option, Some, None}
-use Rattle.std.specs.Prelude.{is_none, if◌then◌else◌}
+use Rattle.std.proofs.Common.{◌≡◌, ℕ, Bool, ◌==◌, ◌⊎◌, inl, inr, true, false, refl, List, [], ◌∷◌, Option, Some, None}
 use Rattle.std.specs.Str.{bytes_eq}
 use Rattle.clap.specs.Lexer.{long_of, short_of}
 use Rattle.dt_words.specs.Options.{after_hyphens, has_hyphen, name_and_value, option_word}

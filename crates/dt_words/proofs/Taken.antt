@@ -1,25 +1,24 @@
 -- The parser of options, from the words to its answer.
-use Rattle.std.proofs.Common.{◌≡◌, ◌∙◌, ◌||◌, inl, inr, ℕ, Bool, true, false, refl, ap, ap₂, subst, sym, List, [], ◌∷◌, ◌++◌, codes, drop, Option, Some, None, Result, Ok, Err, IfErr, MatchResult}
-use Rattle.std.specs.Prelude.{fold, if◌then◌else◌, is_none, option_and_then, option_map}
+use Rattle.std.proofs.Common.{◌≡◌, ◌∙◌, inl, inr, ℕ, Bool, true, false, refl, ap, ap₂, subst, sym, List, [], ◌∷◌, drop, Option, Some, None, Ok, Err}
+use Rattle.std.specs.Prelude.{if◌then◌else◌}
 use Rattle.std.specs.List.{list_any}
-use Rattle.std.specs.Str.{bytes_eq}
-use Rattle.clap.specs.Walk.{Row, first_of, nothing_held, settled, rows_after, rows_of, walk, walk_from}
-use Rattle.clap.specs.Simple.{App, HasMatchesOf, app_of, built, is_simple, matches_of, names_of}
-use Rattle.clap.specs.Matches.{first_value, found_of}
+use Rattle.clap.specs.Walk.{first_of, nothing_held, settled, rows_after, rows_of, walk, walk_from}
+use Rattle.clap.specs.Simple.{App, HasMatchesOf, matches_of, names_of}
+use Rattle.clap.specs.Matches.{found_of}
 use Rattle.clap.specs.Kinds.{FailsBy, HasKind, IsAmong, Kinds, or_else}
-use Rattle.clap.specs.Faults.{built_fault, fault_of, is_simple_and_free, level_fault, settle_fault, walk_fault}
+use Rattle.clap.specs.Faults.{built_fault, fault_of, is_simple_and_free, settle_fault, walk_fault}
 use Rattle.clap.specs.declared.parser.matches.ArgMatches.{ArgMatches}
 use Rattle.clap.specs.Values.{kind_of}
 use Rattle.clap.specs.declared.error.Error.{Error}
 use Rattle.clap.specs.declared.error.kind.ErrorKind.TheVariants.{OutOfMemory}
 use Rattle.clap.proofs.FaultLemmas.{leaf_fault}
 use Rattle.clap.proofs.WalkLemmas.{both, first_value-rows}
-use Rattle.dt_words.specs.Options.{Given, after_hyphens, begun, has_hyphen, is_among, option_word, options_from, options_of, put, value_of, without}
-use Rattle.dt_words.specs.Parsed.{HasGiven, ParsedBy, is_stray, options_app}
+use Rattle.dt_words.specs.Options.{Given, after_hyphens, begun, has_hyphen, is_among, option_word, options_from, options_of, put, without}
+use Rattle.dt_words.specs.Parsed.{ParsedBy, is_stray, options_app}
 use Rattle.dt_words.specs.declared.words_fault.WordsFault.{WordsFault}
 use Rattle.dt_words.specs.declared.words_fault.WordsFault.TheVariants.{Usage}
 use Rattle.dt_words.proofs.Parser.{built_app, defaults_add_none, no_check, no_default, ready_rules, ready_shape}
-use Rattle.dt_words.proofs.Rows.{all_left, first_given, rows}
+use Rattle.dt_words.proofs.Rows.{all_left, first_given}
 use Rattle.dt_words.proofs.Turns.{idle_at, or_none}
 use Rattle.dt_words.proofs.Walked.{Agrees, agree, agrees_as, all_kinds, last_rows}
 

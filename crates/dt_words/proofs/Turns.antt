@@ -1,10 +1,8 @@
 -- What the parser of options makes of one word.
-use Rattle.std.proofs.Common.{◌≡◌, ◌∙◌, ℕ, Bool, true, false, cond, refl, ap, subst, sym, List, [], ◌∷◌, ◌++◌, map, Option, Some, None}
-use Rattle.std.specs.Prelude.{fold}
-use Rattle.clap.specs.Walk.{Held, Names, Row, Rule, Text, Waiting, Walk, idle, option, arg_by_id, arg_by_long, pushed, reacted, settled, subcommand_met, used, walk_from, walked}
-use Rattle.clap.specs.Simple.{Shape}
+use Rattle.std.proofs.Common.{◌≡◌, ◌∙◌, ℕ, Bool, true, false, refl, sym, List, [], ◌∷◌, Option, Some, None}
+use Rattle.clap.specs.Walk.{Held, Row, Text, Waiting, Walk, idle, option, arg_by_id, arg_by_long, reacted, settled, subcommand_met, used, walk_from, walked}
 use Rattle.clap.specs.Kinds.{Kinds, or_else}
-use Rattle.clap.specs.Faults.{settle_fault, turn_fault, use_fault, walk_fault}
+use Rattle.clap.specs.Faults.{settle_fault, turn_fault, use_fault}
 use Rattle.clap.specs.declared.error.kind.ErrorKind.TheVariants as kind
 use Rattle.dt_words.specs.Options.{is_among}
 use Rattle.dt_words.proofs.Parser.{FoundAs, by_index, by_long, itself, ready_rule, ready_rules, ready_shape}

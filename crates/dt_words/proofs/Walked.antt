@@ -1,16 +1,16 @@
 -- The parser of options takes the words that are options, and keeps each option's value.
-use Rattle.std.proofs.Common.{◌≡◌, ◌∙◌, ◌&&◌, ◌||◌, ◌⊎◌, inl, inr, ℕ, Bool, true, false, not, refl, ap, ap₂, subst, sym, List, [], ◌∷◌, ◌++◌, map, Option, Some, None, append_assoc}
-use Rattle.std.specs.Prelude.{fold, if◌then◌else◌, option_map}
+use Rattle.std.proofs.Common.{◌≡◌, ◌∙◌, ◌&&◌, ◌||◌, ◌⊎◌, inl, inr, ℕ, Bool, true, false, not, refl, ap, ap₂, subst, sym, List, [], ◌∷◌, ◌++◌, Option, Some, None, append_assoc}
+use Rattle.std.specs.Prelude.{fold, if◌then◌else◌}
 use Rattle.std.specs.List.{list_any}
 use Rattle.std.proofs.lemmas.List.{append-nil}
-use Rattle.clap.specs.Walk.{Held, Row, Rule, Text, Walk, idle, option as option_waits, arg_by_id, arg_by_long, has_row, reacted, settled, used, walked}
+use Rattle.clap.specs.Walk.{Held, Row, Rule, Text, Walk, idle, option as option_waits, has_row, reacted, settled, used, walked}
 use Rattle.clap.specs.Kinds.{Kinds, or_else}
-use Rattle.clap.specs.Faults.{settle_fault, turn_fault, use_fault, walk_fault}
+use Rattle.clap.specs.Faults.{settle_fault, turn_fault, walk_fault}
 use Rattle.clap.specs.declared.error.kind.ErrorKind.TheVariants as kind
 use Rattle.dt_words.specs.Options.{Given, begun, is_among, options_from, put, without}
 use Rattle.dt_words.proofs.Parser.{FoundAs, by_id, by_long, ready_rule, ready_rules, ready_shape}
 use Rattle.dt_words.proofs.Rows.{IsLeft, one_less, option, rows, use_passes, used_last, used_twice}
-use Rattle.dt_words.proofs.Shapes.{IsOption, IsValue, Reads, reads}
+use Rattle.dt_words.proofs.Shapes.{IsOption, Reads, reads}
 use Rattle.dt_words.specs.Parsed.{is_stray}
 use Rattle.dt_words.proofs.Turns.{first_passes, idle_at, name_turn, name_walked, nothing_pending, or_assoc, settling_turn, stray_turn, then_passes, unknown_turn, value_pending, value_settled, value_turn, value_walked, waited_turn, waited_walked, waits_at}
 

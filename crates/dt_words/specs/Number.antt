@@ -1,5 +1,5 @@
 -- Numbers of a command line.
-use Rattle.std.specs.Prelude.{ℕ, Bool, ◌==◌, ◌&&◌, false, not, nat_le, if◌then◌else◌, List, [], ◌∷◌, length, Option, Some, None, option_and_then}
+use Rattle.std.specs.Prelude.{ℕ, Bool, ◌==◌, ◌&&◌, false, not, nat_le, if◌then◌else◌, List, ◌∷◌, length, Option, Some, None, option_and_then}
 use Rattle.std.specs.List.{list_all}
 use Rattle.std.specs.Str.Parse.{digits_value}
 use Rattle.dt_words.specs.declared.number.TheConstants.{DIGITS}

@@ -1,5 +1,5 @@
 -- How the words go to the parser of options (`clap`), and what comes back. No public clause speaks of it.
-use Rattle.std.specs.Prelude.{◌≡◌, ℕ, Bool, ◌&&◌, is_none, true, List, [], map, Option, Some, None, Result, Ok, Err}
+use Rattle.std.specs.Prelude.{◌≡◌, ℕ, Bool, ◌&&◌, is_none, true, List, [], map, Some, None, Result, Ok, Err}
 use Rattle.clap.specs.Walk.{Rule}
 use Rattle.clap.specs.Simple.{App, new_rule, new_shape}
 use Rattle.clap.specs.Matches.{first_value, found_of}

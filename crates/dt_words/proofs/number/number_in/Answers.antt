@@ -1,4 +1,4 @@
-use Rattle.std.proofs.Common.{rules, ◌≡◌, ap, subst, true, sym}
+use Rattle.std.proofs.Common.{rules, ◌≡◌, true}
 use Rattle.dt_words.specs.Number.{is_number}
 use Rattle.dt_words.proofs.Digits.{is_read}
 use Rattle.dt_words.proofs.number.number_in.Goals as goal

@@ -1,4 +1,4 @@
-use Rattle.std.proofs.Common.{◌≡◌, ◌∙◌, codes, drop}
+use Rattle.std.proofs.Common.{◌∙◌, codes, drop}
 use Rattle.dt_words.specs.CommandOf.{gen_names, gen_of}
 use Rattle.dt_words.proofs.Commands.{read, refused}
 use Rattle.dt_words.proofs.Parser.{gen_is_simple}

@@ -1,4 +1,4 @@
-use Rattle.std.proofs.Common.{◌≡◌, ◌∙◌, codes, drop}
+use Rattle.std.proofs.Common.{◌∙◌, codes, drop}
 use Rattle.dt_words.specs.CommandOf.{run_names, run_of}
 use Rattle.dt_words.proofs.Commands.{read, refused}
 use Rattle.dt_words.proofs.Parser.{run_is_simple}

@@ -1,4 +1,4 @@
-use Rattle.std.proofs.Common.{◌≡◌, ◌∙◌, sym}
+use Rattle.std.proofs.Common.{◌∙◌, sym}
 use Rattle.dt_words.proofs.Commands.{rest_kept, stray_command}
 use Rattle.dt_words.proofs.reading.read_words.Goals as goal
 
