@@ -26,7 +26,7 @@ pub enum Table {
 }
 
 /// What a command line asks for.
-#[derive(Clone, Copy, Debug, PartialEq, Eq)]
+#[derive(Debug, PartialEq, Eq, Drop)]
 pub enum Command {
     /// `run`: perform the script on standard input.
     Run {
@@ -50,8 +50,8 @@ pub enum Command {
 
 impl Command {
     /// Whether the program performs the command: `gen` waits for a generator of scripts.
-    pub fn is_performed(self) -> bool
-        ensures { result ≡ is_performed self }
+    pub fn is_performed(&self) -> bool
+        ensures { result ≡ is_performed self.now }
     {
         match self {
             Command::Run { .. } => true,

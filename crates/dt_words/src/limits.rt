@@ -29,7 +29,7 @@ pub const ENTRIES_UNLESS_GIVEN: u32 = 2_147_483_648;
 pub const VERSIONS: u64 = 281_474_976_710_656;
 
 /// What a run is limited by: readers, pages, entries of a version, and versions.
-#[derive(Clone, Copy, Debug, PartialEq, Eq)]
+#[derive(Debug, PartialEq, Eq, Drop)]
 pub struct Limits {
     readers: u16,
     pages: u32,
@@ -101,8 +101,8 @@ impl Limits {
     }
 
     /// The number of readers that may be out, from 1 to [`READERS`].
-    pub fn readers(self) -> u16
-        ensures value { result ≡ self.reader_count }
+    pub fn readers(&self) -> u16
+        ensures value { result ≡ self.now.reader_count }
         ensures least { 1 ≤ result }
         ensures most { result ≤ READERS }
     {
@@ -110,8 +110,8 @@ impl Limits {
     }
 
     /// The number of pages, the empty page counted, from [`LEAST_PAGES`] to [`PAGES`].
-    pub fn pages(self) -> u32
-        ensures value { result ≡ self.page_count }
+    pub fn pages(&self) -> u32
+        ensures value { result ≡ self.now.page_count }
         ensures least { LEAST_PAGES ≤ result }
         ensures most { result ≤ PAGES }
     {
@@ -119,8 +119,8 @@ impl Limits {
     }
 
     /// How many entries a version takes before its readers are told that it is worn, from 1 to [`ENTRIES`].
-    pub fn entries(self) -> u32
-        ensures value { result ≡ self.entry_limit }
+    pub fn entries(&self) -> u32
+        ensures value { result ≡ self.now.entry_limit }
         ensures least { 1 ≤ result }
         ensures most { result ≤ ENTRIES }
     {
@@ -128,8 +128,8 @@ impl Limits {
     }
 
     /// The number of versions after the first, from 1 to [`VERSIONS`].
-    pub fn versions(self) -> u64
-        ensures value { result ≡ self.version_limit }
+    pub fn versions(&self) -> u64
+        ensures value { result ≡ self.now.version_limit }
         ensures least { 1 ≤ result }
         ensures most { result ≤ VERSIONS }
     {
