@@ -20,17 +20,13 @@ abbrev pub batches_by : Bool → Meaning → List Line → List (List Edit)
 batches_by inside (meaning.Edit edit) more = with_edit inside (Some edit) (batches_from inside more)
 batches_by inside meaning.Begin more = batches_from true more
 batches_by inside meaning.Commit more = [] ∷ batches_from false more
-batches_by inside meaning.Phase more = batches_from inside more
-batches_by inside (meaning.Caller caller) more = batches_from inside more
-batches_by inside (meaning.CallerLine line) more = batches_from inside more
-batches_by inside meaning.Nothing more = batches_from inside more
+batches_by inside _ more = batches_from inside more
 
 no_edit : (inside : Bool) (batches : List (List Edit)) → with_edit inside None batches ≡ batches
 no_edit true batches = refl
 no_edit false batches = refl
 
 batches-first : (inside : Bool) (l : Line) (more : List Line) → batches_from inside (l ∷ more) ≡ batches_by inside (meaning_of l) more
-batches-first inside line.Header more = no_edit inside (batches_from inside more)
 batches-first inside (line.AddClass class parents) more = refl
 batches-first inside (line.DropClass class) more = refl
 batches-first inside (line.Link class parent) more = refl
@@ -41,12 +37,7 @@ batches-first inside (line.Define selector classes body) more = refl
 batches-first inside (line.Undefine selector classes) more = refl
 batches-first inside line.Begin more = refl
 batches-first inside line.Commit more = refl
-batches-first inside line.Phase more = no_edit inside (batches_from inside more)
-batches-first inside (line.Caller caller) more = no_edit inside (batches_from inside more)
-batches-first inside (line.Call query) more = no_edit inside (batches_from inside more)
-batches-first inside line.Pin more = no_edit inside (batches_from inside more)
-batches-first inside line.Unpin more = no_edit inside (batches_from inside more)
-batches-first inside line.End more = no_edit inside (batches_from inside more)
+batches-first inside l more = no_edit inside (batches_from inside more)
 
 -- of a line with this meaning
 batches-of : (inside : Bool) (l : Line) (m : Meaning) (more : List Line) → meaning_of l ≡ m → batches_from inside (l ∷ more) ≡ batches_by inside m more
@@ -58,22 +49,7 @@ parts_by _ more = parts_of more
 
 parts-first : (l : Line) (more : List Line) → parts_of (l ∷ more) ≡ parts_by (meaning_of l) more
 parts-first line.Header more = refl
-parts-first (line.AddClass class parents) more = refl
-parts-first (line.DropClass class) more = refl
-parts-first (line.Link class parent) more = refl
-parts-first (line.Unlink class parent) more = refl
-parts-first (line.AddSelector selector arity) more = refl
-parts-first (line.DropSelector selector) more = refl
-parts-first (line.Define selector classes body) more = refl
-parts-first (line.Undefine selector classes) more = refl
-parts-first line.Begin more = refl
-parts-first line.Commit more = refl
-parts-first line.Phase more = refl
-parts-first (line.Caller caller) more = refl
-parts-first (line.Call query) more = refl
-parts-first line.Pin more = refl
-parts-first line.Unpin more = refl
-parts-first line.End more = refl
+parts-first l more = refl
 
 abbrev pub lines_by : Meaning → List Line → List CallerLine
 lines_by (meaning.Caller caller) more = []
@@ -82,22 +58,7 @@ lines_by _ more = lines_of_caller more
 
 lines-first : (l : Line) (more : List Line) → lines_of_caller (l ∷ more) ≡ lines_by (meaning_of l) more
 lines-first line.Header more = refl
-lines-first (line.AddClass class parents) more = refl
-lines-first (line.DropClass class) more = refl
-lines-first (line.Link class parent) more = refl
-lines-first (line.Unlink class parent) more = refl
-lines-first (line.AddSelector selector arity) more = refl
-lines-first (line.DropSelector selector) more = refl
-lines-first (line.Define selector classes body) more = refl
-lines-first (line.Undefine selector classes) more = refl
-lines-first line.Begin more = refl
-lines-first line.Commit more = refl
-lines-first line.Phase more = refl
-lines-first (line.Caller caller) more = refl
-lines-first (line.Call query) more = refl
-lines-first line.Pin more = refl
-lines-first line.Unpin more = refl
-lines-first line.End more = refl
+lines-first l more = refl
 
 abbrev pub is_phase_by : Meaning → Bool
 is_phase_by meaning.Phase = true
@@ -105,22 +66,7 @@ is_phase_by _ = false
 
 phase-first : (l : Line) → is_phase l ≡ is_phase_by (meaning_of l)
 phase-first line.Header = refl
-phase-first (line.AddClass class parents) = refl
-phase-first (line.DropClass class) = refl
-phase-first (line.Link class parent) = refl
-phase-first (line.Unlink class parent) = refl
-phase-first (line.AddSelector selector arity) = refl
-phase-first (line.DropSelector selector) = refl
-phase-first (line.Define selector classes body) = refl
-phase-first (line.Undefine selector classes) = refl
-phase-first line.Begin = refl
-phase-first line.Commit = refl
-phase-first line.Phase = refl
-phase-first (line.Caller caller) = refl
-phase-first (line.Call query) = refl
-phase-first line.Pin = refl
-phase-first line.Unpin = refl
-phase-first line.End = refl
+phase-first l = refl
 
 -- ---- batches
 

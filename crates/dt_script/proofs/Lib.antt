@@ -21,3 +21,4 @@ pub mod Built
 pub mod SamePlace
 pub mod LinesRead
 pub mod LinesCut
+pub mod OnlyAnswer

@@ -21,14 +21,6 @@ use Rattle.dt_script.proofs.WrittenTexts.{bounds}
 -- the rule of a first word, and of a caller's number
 abbrev rule : ℕ → List Line → Keyword → ℕ → Bool
 rule readers past keyword.Dispatch number = is_first past
-rule readers past keyword.Class number = is_none (caller_after past)
-rule readers past keyword.Drop number = is_none (caller_after past)
-rule readers past keyword.Link number = is_none (caller_after past)
-rule readers past keyword.Unlink number = is_none (caller_after past)
-rule readers past keyword.Selector number = is_none (caller_after past)
-rule readers past keyword.Forget number = is_none (caller_after past)
-rule readers past keyword.Define number = is_none (caller_after past)
-rule readers past keyword.Undefine number = is_none (caller_after past)
 rule readers past keyword.Begin number = is_none (caller_after past) && not (is_in_batch past)
 rule readers past keyword.Commit number = is_in_batch past
 rule readers past keyword.Phase number = not (is_in_batch past)
@@ -37,6 +29,7 @@ rule readers past keyword.Call number = is_some (caller_after past)
 rule readers past keyword.Pin number = may_pin past (caller_after past)
 rule readers past keyword.Unpin number = may_unpin past (caller_after past)
 rule readers past keyword.End number = not (is_in_batch past)
+rule readers past _ number = is_none (caller_after past)
 
 abbrev number_of : Line → ℕ
 number_of (line.Caller caller) = caller
@@ -44,103 +37,26 @@ number_of _ = 0
 
 rule-line : (readers : ℕ) (past : List Line) (l : Line) → may_follow readers past l ≡ rule readers past (first_of l) (number_of l)
 rule-line readers past line.Header = refl
-rule-line readers past (line.AddClass class parents) = refl
-rule-line readers past (line.DropClass class) = refl
-rule-line readers past (line.Link class parent) = refl
-rule-line readers past (line.Unlink class parent) = refl
-rule-line readers past (line.AddSelector selector arity) = refl
-rule-line readers past (line.DropSelector selector) = refl
-rule-line readers past (line.Define selector classes body) = refl
-rule-line readers past (line.Undefine selector classes) = refl
-rule-line readers past line.Begin = refl
-rule-line readers past line.Commit = refl
-rule-line readers past line.Phase = refl
-rule-line readers past (line.Caller caller) = refl
-rule-line readers past (line.Call query) = refl
-rule-line readers past line.Pin = refl
-rule-line readers past line.Unpin = refl
-rule-line readers past line.End = refl
+rule-line readers past l = refl
 
 -- the first word of a written line is that of its line
 first-written : (book : NameBook) (w : Written) → (rest : List (List ℕ)) × (texts_of w ≡ text_of_keyword (first_of (line_in book w)) ∷ rest)
 first-written book written.Header = (_, refl)
-first-written book (written.AddClass class) = (_, refl)
-first-written book (written.AddSubclass class parents) = (_, refl)
-first-written book (written.DropClass class) = (_, refl)
-first-written book (written.Link class parent) = (_, refl)
-first-written book (written.Unlink class parent) = (_, refl)
-first-written book (written.AddSelector selector arity) = (_, refl)
-first-written book (written.DropSelector selector) = (_, refl)
-first-written book (written.Define selector classes body) = (_, refl)
-first-written book (written.Undefine selector classes) = (_, refl)
-first-written book written.Begin = (_, refl)
-first-written book written.Commit = (_, refl)
-first-written book written.Phase = (_, refl)
-first-written book (written.Caller caller) = (_, refl)
-first-written book (written.Call selector classes) = (_, refl)
-first-written book written.Pin = (_, refl)
-first-written book written.Unpin = (_, refl)
-first-written book written.End = (_, refl)
+first-written book w = (_, refl)
 
 -- the line of a caller
 caller-line : (l : Line) → first_of l ≡ keyword.Caller → l ≡ line.Caller (number_of l)
-caller-line line.Header is = absurd cc
-caller-line (line.AddClass class parents) is = absurd cc
-caller-line (line.DropClass class) is = absurd cc
-caller-line (line.Link class parent) is = absurd cc
-caller-line (line.Unlink class parent) is = absurd cc
-caller-line (line.AddSelector selector arity) is = absurd cc
-caller-line (line.DropSelector selector) is = absurd cc
-caller-line (line.Define selector classes body) is = absurd cc
-caller-line (line.Undefine selector classes) is = absurd cc
-caller-line line.Begin is = absurd cc
-caller-line line.Commit is = absurd cc
-caller-line line.Phase is = absurd cc
 caller-line (line.Caller caller) is = refl
-caller-line (line.Call query) is = absurd cc
-caller-line line.Pin is = absurd cc
-caller-line line.Unpin is = absurd cc
-caller-line line.End is = absurd cc
+caller-line l is = absurd cc
 
 caller-written : (book : NameBook) (w : Written) → first_of (line_in book w) ≡ keyword.Caller → w ≡ written.Caller (number_of (line_in book w))
-caller-written book written.Header is = absurd cc
-caller-written book (written.AddClass class) is = absurd cc
-caller-written book (written.AddSubclass class parents) is = absurd cc
-caller-written book (written.DropClass class) is = absurd cc
-caller-written book (written.Link class parent) is = absurd cc
-caller-written book (written.Unlink class parent) is = absurd cc
-caller-written book (written.AddSelector selector arity) is = absurd cc
-caller-written book (written.DropSelector selector) is = absurd cc
-caller-written book (written.Define selector classes body) is = absurd cc
-caller-written book (written.Undefine selector classes) is = absurd cc
-caller-written book written.Begin is = absurd cc
-caller-written book written.Commit is = absurd cc
-caller-written book written.Phase is = absurd cc
 caller-written book (written.Caller caller) is = refl
-caller-written book (written.Call selector classes) is = absurd cc
-caller-written book written.Pin is = absurd cc
-caller-written book written.Unpin is = absurd cc
-caller-written book written.End is = absurd cc
+caller-written book w is = absurd cc
 
 -- the number matters to the line of a caller alone
 rule-number : (readers : ℕ) (past : List Line) (k : Keyword) (m n : ℕ) → (k ≡ keyword.Caller → m ≡ n) → rule readers past k m ≡ rule readers past k n
-rule-number readers past keyword.Dispatch m n same = refl
-rule-number readers past keyword.Class m n same = refl
-rule-number readers past keyword.Drop m n same = refl
-rule-number readers past keyword.Link m n same = refl
-rule-number readers past keyword.Unlink m n same = refl
-rule-number readers past keyword.Selector m n same = refl
-rule-number readers past keyword.Forget m n same = refl
-rule-number readers past keyword.Define m n same = refl
-rule-number readers past keyword.Undefine m n same = refl
-rule-number readers past keyword.Begin m n same = refl
-rule-number readers past keyword.Commit m n same = refl
-rule-number readers past keyword.Phase m n same = refl
 rule-number readers past keyword.Caller m n same = ap (rule readers past keyword.Caller) (same refl)
-rule-number readers past keyword.Call m n same = refl
-rule-number readers past keyword.Pin m n same = refl
-rule-number readers past keyword.Unpin m n same = refl
-rule-number readers past keyword.End m n same = refl
+rule-number readers past k m n same = refl
 
 -- callers that are spelled the same are the same
 same-caller : (book : NameBook) (m n : ℕ) (texts : List (List ℕ)) → AreTexts book (words_of (line.Caller m)) texts → texts_of (written.Caller n) ≡ texts → IsTrue (is_from_one_to CALLERS m) → IsTrue (is_from_one_to CALLERS n) → m ≡ n
@@ -175,22 +91,7 @@ same_place readers past book bytes w l before after (whole, are, range) of =
 
 header-line : (l : Line) → first_of l ≡ keyword.Dispatch → l ≡ line.Header
 header-line line.Header is = refl
-header-line (line.AddClass class parents) is = absurd cc
-header-line (line.DropClass class) is = absurd cc
-header-line (line.Link class parent) is = absurd cc
-header-line (line.Unlink class parent) is = absurd cc
-header-line (line.AddSelector selector arity) is = absurd cc
-header-line (line.DropSelector selector) is = absurd cc
-header-line (line.Define selector classes body) is = absurd cc
-header-line (line.Undefine selector classes) is = absurd cc
-header-line line.Begin is = absurd cc
-header-line line.Commit is = absurd cc
-header-line line.Phase is = absurd cc
-header-line (line.Caller caller) is = absurd cc
-header-line (line.Call query) is = absurd cc
-header-line line.Pin is = absurd cc
-header-line line.Unpin is = absurd cc
-header-line line.End is = absurd cc
+header-line l is = absurd cc
 
 -- what is spelled as the header is the header
 pub header_written : (book : NameBook) (w : Written) → IsWrittenLine (codes "dispatch 1") (Some w) → line_in book w ≡ line.Header

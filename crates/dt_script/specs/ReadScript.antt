@@ -1,8 +1,9 @@
 -- What reading a script from a source says of the bytes that the source had left, where it tells them.
-use Rattle.std.specs.Prelude.{◌≡◌, ℕ, ◌+◌, ◌≤◌, List, [], length, Option, Some, IfSome, Result, Err}
+use Rattle.std.specs.Prelude.{◌≡◌, ℕ, ◌+◌, ◌≤◌, List, [], length, Option, Some, IfSome, Result, Ok, Err, ◌⊎◌}
 use Rattle.dt_outside.specs.Faults.{one_fault_more}
 use Rattle.dt_outside.specs.Losing.{Loses, LosesAtMost}
-use Rattle.dt_script.specs.ScriptOf.{IsFaultOf}
+use Rattle.dt_script.specs.Script as shown
+use Rattle.dt_script.specs.ScriptOf.{IsScriptOf, IsFaultOf}
 use Rattle.dt_script.specs.declared.limits.TheConstants.{SCRIPT_BYTES}
 use Rattle.dt_script.specs.declared.script.Script.{Script}
 use Rattle.dt_script.specs.declared.script_fault.ScriptFault.{ScriptFault}
@@ -33,3 +34,9 @@ IsFaultOfSource readers left rest NoMemory = LosesAtMost (SCRIPT_BYTES + 1) left
 abbrev pub IsFaultCounted : Result Script ScriptFault → ℕ → ℕ → Type 0
 IsFaultCounted (Err ReadFault) old new = new ≡ one_fault_more old
 IsFaultCounted _ old new = new ≡ old
+
+-- No other answer comes than these: the script that the bytes are, the fault that they have, or that no memory was found.
+pub record IsAnswerFor (readers : ℕ) (bytes : List ℕ) (result : Result Script ScriptFault) : Type 0 where
+  pub script : (script : shown.Script) → IsScriptOf readers bytes script
+      → (result ≡ Ok script) ⊎ (result ≡ Err NoMemory)
+  pub fault : (fault : ScriptFault) → IsFaultOf readers bytes fault → (result ≡ Err fault) ⊎ (result ≡ Err NoMemory)

@@ -1,8 +1,9 @@
 ghost use Rattle.std.specs.Prelude.{◌≡◌, ◌≤◌, ◌+◌, ℕ, List, [], ◌∷◌, length, reverse, IfOk, IfErr, OnOk, IfSome, MatchOption, ◌⊎◌};
+ghost use Rattle.dt_outside.specs.Faults.{Rose};
 ghost use Rattle.dt_outside.specs.Losing.{LosesAtMost};
 ghost use Rattle.dt_script.specs.Lines.{lines_of};
 ghost use Rattle.dt_script.specs.ScriptOf.{HasHeader, IsScriptOf, IsFaultOf};
-ghost use Rattle.dt_script.specs.ReadScript.{WasRead, IsFaultOfSource, IsFaultCounted};
+ghost use Rattle.dt_script.specs.ReadScript.{WasRead, IsFaultOfSource, IsFaultCounted, IsAnswerFor};
 ghost use Rattle.dt_script.specs.Reading.{HasRead};
 ghost use Rattle.dt_script.specs.declared.limits.TheConstants.{CALLERS, SCRIPT_BYTES};
 ghost use Rattle.dt_script.specs.declared.line.Line.{Line};
@@ -10,6 +11,7 @@ ghost use Rattle.dt_script.specs.declared.line.Line.TheVariants.{Header};
 
 use crate::limits::SCRIPT_BYTES;
 use crate::lines::first_line;
+use crate::one_answer::bytes_have_one_answer;
 use crate::reading::Reading;
 use crate::script::Script;
 use crate::script_fault::ScriptFault;
@@ -41,10 +43,13 @@ pub fn read_script<S: Source>(
     ensures script { IfOk result (λ script. (bytes : List ℕ)
         × WasRead (S.left source.old) (S.left source.new) bytes × IsScriptOf readers bytes script) }
     ensures fault { IfErr result (IsFaultOfSource readers (S.left source.old) (S.left source.new)) }
+    ensures exact { (Rose (S.faults source.old) (S.faults source.new) → ⊥) → IfSome (S.left source.old)
+        (λ bytes. length bytes ≤ SCRIPT_BYTES → IsAnswerFor readers bytes result) }
     ensures lost { LosesAtMost (SCRIPT_BYTES + 1) (S.left source.old) (S.left source.new) }
     ensures counted { IsFaultCounted result (S.faults source.old) (S.faults source.new) }
     ensures counts { S.faults source.old ≤ S.faults source.new }
 {
+    bytes_have_one_answer();
     let bytes = match read_to_end(alloc, source, SCRIPT_BYTES) {
         Ok(bytes) => bytes,
         Err(ReadFault::Read) => return Err(ScriptFault::ReadFault),
