@@ -23,6 +23,7 @@ pub mod LineExamples
 pub mod PlaceExamples
 pub mod ScriptExamples
 pub mod ScriptOfExamples
+pub mod ReadScriptExamples
 pub mod PlayableExamples
 pub mod LawfulBookExamples
 -- How it is read: no clause of a public call speaks of these.
