@@ -31,7 +31,7 @@ after_is marked class (box ∷ boxes) classes =
 
 -- ---- members
 
-In-turn : {T : Type 0} (f : ℕ → List T) (classes : List ℕ) (class : ℕ) (x : T) → IsTrue (has_number classes class) →
+pub In-turn : {T : Type 0} (f : ℕ → List T) (classes : List ℕ) (class : ℕ) (x : T) → IsTrue (has_number classes class) →
     In (f class) x → In (in_turn f classes) x
 In-turn f [] class x h i = absurd (false≢true h)
 In-turn f (c ∷ cs) class x h i = ⊎_elim
@@ -39,7 +39,7 @@ In-turn f (c ∷ cs) class x h i = ⊎_elim
     (λ later. In-later (f c) (in_turn f cs) x (In-turn f cs class x later i))
     (or_cases (c == class) (has_number cs class) h)
 
-In-from_turn : {T : Type 0} (f : ℕ → List T) (classes : List ℕ) (x : T) → In (in_turn f classes) x →
+pub In-from_turn : {T : Type 0} (f : ℕ → List T) (classes : List ℕ) (x : T) → In (in_turn f classes) x →
     (class : ℕ) × IsTrue (has_number classes class) × In (f class) x
 In-from_turn f [] x i = absurd i
 In-from_turn f (c ∷ cs) x i = ⊎_elim

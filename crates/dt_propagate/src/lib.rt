@@ -2,5 +2,8 @@
 #![tactic(auto)]
 
 mod laws;
+mod near;
+mod told;
+mod walk;
 
 pub use laws::{boxes_hold, candidates_are_held, finer_marks_serve, understood_is_held};

@@ -1,0 +1,15 @@
+use Rattle.std.proofs.Common.{◌≡◌, ◌-◌, take, ◌∷◌, [], ◌++◌}
+use Rattle.dt_propagate.specs.Boxes.{in_turn}
+use Rattle.dt_propagate.specs.GoneThrough.{told_after}
+use Rattle.dt_propagate.specs.Walk.{told_change}
+use Rattle.dt_propagate.proofs.walk.+push_after.Given as goal
+
+abbrev pub decreases-push_after : goal.decreases-push_after
+decreases-push_after g l = l.more
+
+abbrev pub invariant-loop-class : goal.invariant-loop-class
+invariant-loop-class g l = record {
+  prefix : l.prefix.items ≡ l.fn.prefix.items;
+  told : l.out.items ≡ l.fn.out.items
+      ++ in_turn (λ c. told_after (told_change l.fn.old l.fn.new) l.fn.selector (l.fn.more - 1) (l.fn.prefix.items ++ c ∷ [])) (take l.class-index l.class-items);
+}

@@ -1,0 +1,80 @@
+ghost use Rattle.std.specs.Prelude.{◌≡◌, ℕ, ◌+◌, ◌<◌, ◌≤◌, ◌||◌, ◌++◌, length, OnOk};
+ghost use Rattle.dt_graph.specs.Graph.{has_number};
+ghost use Rattle.dt_propagate.specs.GoneThrough.{told_after};
+ghost use Rattle.dt_propagate.specs.Walk.{GoesThroughAll, goes_next, goes_on_in, told_change};
+
+use crate::near::{Near, insert_defined, insert_redefined};
+use crate::told::{push_told, query_at};
+use arrayvec::ArrayVec;
+use dt_definitions::{DefinitionKey, Program};
+use dt_graph::{ClassNo, ClassSet, NoMemory, Steps};
+use dt_scratch::Change;
+use dt_selectors::SelNo;
+use std::sync::ledger::Ledger;
+
+// The classes that go on from the prefix in the program are in the set from now on.
+fn insert_next(
+    program: &Program,
+    selector: SelNo,
+    keys: &[DefinitionKey],
+    near: &Near,
+    prefix: &[ClassNo],
+    next: &mut ClassSet,
+)
+    ensures { (n : ℕ) → has_number next.new n
+        ≡ (has_number next.old n || goes_on_in program.now selector keys.now near.now prefix.now n) }
+{
+    let graph = program.graph();
+    insert_defined(graph, near, program.definitions_of(selector), prefix, next);
+    insert_redefined(graph, near, selector, keys, prefix, next);
+}
+
+// The classes that go on from the prefix in one of the two programs.
+fn next_classes(
+    old: &Program,
+    new: &Program,
+    selector: SelNo,
+    keys: &[DefinitionKey],
+    near: &Near,
+    prefix: &[ClassNo],
+) -> ClassSet
+    ensures { (n : ℕ) → has_number result n ≡ goes_next old.now new.now selector keys.now near.now prefix.now n }
+{
+    let mut next = ClassSet::new();
+    insert_next(old, selector, keys, near, prefix, &mut next);
+    insert_next(new, selector, keys, near, prefix, &mut next);
+    next
+}
+
+// What is told of the selector's queries whose classes are the prefix and so many more goes to the end.
+fn push_after<L: Ledger>(
+    old: &Program,
+    new: &Program,
+    selector: SelNo,
+    keys: &[DefinitionKey],
+    near: &Near,
+    more: usize,
+    prefix: &mut ArrayVec<ClassNo, 4>,
+    steps: &mut Steps<L>,
+    out: &mut Vec<Change>,
+) -> Result<(), NoMemory>
+    requires all { GoesThroughAll old.now new.now selector keys.now near.now }
+    requires some { 0 < length prefix.old.items + more }
+    requires room { length prefix.old.items + more ≤ 4 }
+    ensures told { OnOk result (out.new.items ≡ out.old.items
+        ++ told_after (told_change old.now new.now) selector more prefix.old.items) }
+    ensures prefix { OnOk result (prefix.new.items ≡ prefix.old.items) }
+{
+    if more == 0 {
+        return push_told(old, new, query_at(selector, prefix), steps, out);
+    }
+    let next = next_classes(old, new, selector, keys, near, prefix);
+    next.law();
+    let classes = next.classes();
+    for class in classes.as_slice() {
+        prefix.push(*class);
+        push_after(old, new, selector, keys, near, more - 1, prefix, steps, out)?;
+        prefix.pop();
+    }
+    Ok(())
+}
