@@ -6,3 +6,4 @@ pub mod FinerMarks
 pub mod GoneThrough
 pub mod Leaf
 pub mod WalkSteps
+pub mod MarkSteps

@@ -24,13 +24,13 @@ use Rattle.dt_propagate.proofs.Leaf.{told_once, told_differs}
 
 -- ---- the classes that go on
 
-pub defined_is : (program : Program) (selector : ℕ) (near : Near) (defined : List Defined) (prefix : List ℕ) (n : ℕ) →
+pub defined_is : (program : Program) (selector : ℕ) (nears : List Near) (defined : List Defined) (prefix : List ℕ) (n : ℕ) →
     with_selector selector defined ≡ definitions_of program selector →
-    list_any (λ d. goes_on program.graph.links near false d.classes prefix n) defined ≡ goes_on_defined program selector near prefix n
-defined_is program selector near defined prefix n e =
+    list_any (λ d. goes_on program.graph.links nears false d.classes prefix n) defined ≡ goes_on_defined program selector nears prefix n
+defined_is program selector nears defined prefix n e =
     sym (list_any-map (λ (d : Defined). record { selector = selector; classes = d.classes; body = d.body })
-    (λ (d : Definition). goes_on program.graph.links near false d.classes prefix n) defined)
-    ∙ ap (list_any (λ (d : Definition). goes_on program.graph.links near false d.classes prefix n)) e
+    (λ (d : Definition). goes_on program.graph.links nears false d.classes prefix n) defined)
+    ∙ ap (list_any (λ (d : Definition). goes_on program.graph.links nears false d.classes prefix n)) e
 
 -- ---- classes that don't go on may be passed over
 
@@ -51,15 +51,15 @@ or_assoc : (a b c : Bool) → ((a || b) || c) ≡ (a || (b || c))
 or_assoc a b c = grind arith
 
 -- the sets of a program, one after the other
-pub inserted_next : (program : Program) (selector : ℕ) (keys : List DefinitionKey) (near : Near) (defined : List Defined) (prefix : List ℕ) (n : ℕ)
+pub inserted_next : (program : Program) (selector : ℕ) (keys : List DefinitionKey) (nears : List Near) (defined : List Defined) (prefix : List ℕ) (n : ℕ)
     (before middle after : Bool) → with_selector selector defined ≡ definitions_of program selector →
-    middle ≡ (before || list_any (λ d. goes_on program.graph.links near false d.classes prefix n) defined) →
-    after ≡ (middle || goes_on_redefined program selector keys near prefix n) →
-    after ≡ (before || goes_on_in program selector keys near prefix n)
-inserted_next program selector keys near defined prefix n before middle after e m a =
-    a ∙ ap (λ b. b || goes_on_redefined program selector keys near prefix n)
-    (m ∙ ap (λ b. before || b) (defined_is program selector near defined prefix n e))
-    ∙ or_assoc before (goes_on_defined program selector near prefix n) (goes_on_redefined program selector keys near prefix n)
+    middle ≡ (before || list_any (λ d. goes_on program.graph.links nears false d.classes prefix n) defined) →
+    after ≡ (middle || goes_on_redefined program selector keys nears prefix n) →
+    after ≡ (before || goes_on_in program selector keys nears prefix n)
+inserted_next program selector keys nears defined prefix n before middle after e m a =
+    a ∙ ap (λ b. b || goes_on_redefined program selector keys nears prefix n)
+    (m ∙ ap (λ b. before || b) (defined_is program selector nears defined prefix n e))
+    ∙ or_assoc before (goes_on_defined program selector nears prefix n) (goes_on_redefined program selector keys nears prefix n)
 
 module _ {T : Type 0} (told : Query → List T) (selector : ℕ) where
   -- what is told after the prefix is told after the classes of the set, where nothing is told after any other
@@ -83,10 +83,10 @@ module _ {T : Type 0} (told : Query → List T) (selector : ℕ) where
       (λ class i t. ap (λ m. told_after told selector m (prefix ++ class ∷ [])) (sym e) ∙ none class (class_below class i) t))
 
 -- nothing is told after a class that doesn't go on
-pub nothing_told : (old new : Program) (selector : ℕ) (keys : List DefinitionKey) (near : Near) → GoesThroughAll old new selector keys near →
-    (k : ℕ) (prefix : List ℕ) (class : ℕ) → goes_next old new selector keys near prefix class ≡ false →
+pub nothing_told : (old new : Program) (selector : ℕ) (keys : List DefinitionKey) (nears : List Near) → GoesThroughAll old new selector keys nears →
+    (k : ℕ) (prefix : List ℕ) (class : ℕ) → goes_next old new selector keys nears prefix class ≡ false →
     told_after (told_change old new) selector k (prefix ++ class ∷ []) ≡ []
-nothing_told old new selector keys near all k prefix class not =
+nothing_told old new selector keys nears all k prefix class not =
     empty_list (told_after (told_change old new) selector k (prefix ++ class ∷ [])) (λ x i.
     let a = told_from (λ change. change.query) (told_change old new) (told_once old new) selector k (prefix ++ class ∷ []) x i in
     let d = (told_differs old new (record { selector = selector; classes = (prefix ++ class ∷ []) ++ a.rest }) x a.there).0 in

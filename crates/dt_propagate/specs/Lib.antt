@@ -6,6 +6,7 @@ pub mod Differences
 pub mod Understood
 pub mod GoneThrough
 pub mod Walk
+pub mod Marks
 pub mod Boxes
 pub mod BoxLaws
 pub mod Counts

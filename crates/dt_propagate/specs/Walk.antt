@@ -25,36 +25,43 @@ abbrev pub told_change : Program → Program → Query → List Change
 told_change old new query =
     if is_same_answer (cell old query) (cell new query) then [] else record { query = query; answer = cell new query } ∷ []
 
+-- whether one of the classes is above a marked one of its position
+abbrev pub is_any_above : List Near → List ℕ → Bool
+is_any_above [] highs = false
+is_any_above (near ∷ nears) [] = false
+is_any_above (near ∷ nears) (high ∷ highs) = has_number near.above high || is_any_above nears highs
+
 -- Whether the class goes on from the prefix below these classes; and unless a marked one was met, it is marked or a marked
 -- one may still come.
-abbrev pub goes_on : List Link → Near → Bool → List ℕ → List ℕ → ℕ → Bool
-goes_on links near is_met [] prefix class = false
-goes_on links near is_met (high ∷ highs) [] class =
-    is_below links class high && ((is_met || list_any (has_number near.above) highs) || has_number near.marked class)
-goes_on links near is_met (high ∷ highs) (first ∷ prefix) class =
-    is_below links first high && goes_on links near (is_met || has_number near.marked first) highs prefix class
+abbrev pub goes_on : List Link → List Near → Bool → List ℕ → List ℕ → ℕ → Bool
+goes_on links [] is_met highs prefix class = false
+goes_on links (near ∷ nears) is_met [] prefix class = false
+goes_on links (near ∷ nears) is_met (high ∷ highs) [] class =
+    is_below links class high && ((is_met || is_any_above nears highs) || has_number near.marked class)
+goes_on links (near ∷ nears) is_met (high ∷ highs) (first ∷ prefix) class =
+    is_below links first high && goes_on links nears (is_met || has_number near.marked first) highs prefix class
 
 -- whether it goes on so below one of the selector's definitions
-abbrev pub goes_on_defined : Program → ℕ → Near → List ℕ → ℕ → Bool
-goes_on_defined program selector near prefix class =
-    list_any (λ d. goes_on program.graph.links near false d.classes prefix class) (definitions_of program selector)
+abbrev pub goes_on_defined : Program → ℕ → List Near → List ℕ → ℕ → Bool
+goes_on_defined program selector nears prefix class =
+    list_any (λ d. goes_on program.graph.links nears false d.classes prefix class) (definitions_of program selector)
 
 -- or below one of these keys of the selector, where no class need be marked
-abbrev pub goes_on_redefined : Program → ℕ → List DefinitionKey → Near → List ℕ → ℕ → Bool
-goes_on_redefined program selector keys near prefix class =
-    list_any (λ key. (key.selector == selector) && goes_on program.graph.links near true key.classes prefix class) keys
+abbrev pub goes_on_redefined : Program → ℕ → List DefinitionKey → List Near → List ℕ → ℕ → Bool
+goes_on_redefined program selector keys nears prefix class =
+    list_any (λ key. (key.selector == selector) && goes_on program.graph.links nears true key.classes prefix class) keys
 
 -- whether it goes on so in the program, and in one of two
-abbrev pub goes_on_in : Program → ℕ → List DefinitionKey → Near → List ℕ → ℕ → Bool
-goes_on_in program selector keys near prefix class =
-    goes_on_defined program selector near prefix class || goes_on_redefined program selector keys near prefix class
+abbrev pub goes_on_in : Program → ℕ → List DefinitionKey → List Near → List ℕ → ℕ → Bool
+goes_on_in program selector keys nears prefix class =
+    goes_on_defined program selector nears prefix class || goes_on_redefined program selector keys nears prefix class
 
-abbrev pub goes_next : Program → Program → ℕ → List DefinitionKey → Near → List ℕ → ℕ → Bool
-goes_next old new selector keys near prefix class =
-    goes_on_in old selector keys near prefix class || goes_on_in new selector keys near prefix class
+abbrev pub goes_next : Program → Program → ℕ → List DefinitionKey → List Near → List ℕ → ℕ → Bool
+goes_next old new selector keys nears prefix class =
+    goes_on_in old selector keys nears prefix class || goes_on_in new selector keys nears prefix class
 
 -- of all queries of the selector whose cells differ, each class goes on from those before it
-abbrev pub GoesThroughAll : Program → Program → ℕ → List DefinitionKey → Near → Type 0
-GoesThroughAll old new selector keys near = (prefix : List ℕ) (class : ℕ) (rest : List ℕ) →
+abbrev pub GoesThroughAll : Program → Program → ℕ → List DefinitionKey → List Near → Type 0
+GoesThroughAll old new selector keys nears = (prefix : List ℕ) (class : ℕ) (rest : List ℕ) →
     Differs old new (record { selector = selector; classes = prefix ++ class ∷ rest }) →
-    IsTrue (goes_next old new selector keys near prefix class)
+    IsTrue (goes_next old new selector keys nears prefix class)

@@ -17,16 +17,16 @@ fn insert_next(
     program: &Program,
     selector: SelNo,
     keys: &[DefinitionKey],
-    near: &Near,
+    nears: &[Near],
     prefix: &[ClassNo],
     next: &mut ClassSet,
 )
     ensures { (n : ℕ) → has_number next.new n
-        ≡ (has_number next.old n || goes_on_in program.now selector keys.now near.now prefix.now n) }
+        ≡ (has_number next.old n || goes_on_in program.now selector keys.now nears.now prefix.now n) }
 {
     let graph = program.graph();
-    insert_defined(graph, near, program.definitions_of(selector), prefix, next);
-    insert_redefined(graph, near, selector, keys, prefix, next);
+    insert_defined(graph, nears, program.definitions_of(selector), prefix, next);
+    insert_redefined(graph, nears, selector, keys, prefix, next);
 }
 
 // The classes that go on from the prefix in one of the two programs.
@@ -35,14 +35,14 @@ fn next_classes(
     new: &Program,
     selector: SelNo,
     keys: &[DefinitionKey],
-    near: &Near,
+    nears: &[Near],
     prefix: &[ClassNo],
 ) -> ClassSet
-    ensures { (n : ℕ) → has_number result n ≡ goes_next old.now new.now selector keys.now near.now prefix.now n }
+    ensures { (n : ℕ) → has_number result n ≡ goes_next old.now new.now selector keys.now nears.now prefix.now n }
 {
     let mut next = ClassSet::new();
-    insert_next(old, selector, keys, near, prefix, &mut next);
-    insert_next(new, selector, keys, near, prefix, &mut next);
+    insert_next(old, selector, keys, nears, prefix, &mut next);
+    insert_next(new, selector, keys, nears, prefix, &mut next);
     next
 }
 
@@ -52,13 +52,13 @@ fn push_after<L: Ledger>(
     new: &Program,
     selector: SelNo,
     keys: &[DefinitionKey],
-    near: &Near,
+    nears: &[Near],
     more: usize,
     prefix: &mut ArrayVec<ClassNo, 4>,
     steps: &mut Steps<L>,
     out: &mut Vec<Change>,
 ) -> Result<(), NoMemory>
-    requires all { GoesThroughAll old.now new.now selector keys.now near.now }
+    requires all { GoesThroughAll old.now new.now selector keys.now nears.now }
     requires some { 0 < length prefix.old.items + more }
     requires room { length prefix.old.items + more ≤ 4 }
     ensures told { OnOk result (out.new.items ≡ out.old.items
@@ -68,12 +68,12 @@ fn push_after<L: Ledger>(
     if more == 0 {
         return push_told(old, new, query_at(selector, prefix), steps, out);
     }
-    let next = next_classes(old, new, selector, keys, near, prefix);
+    let next = next_classes(old, new, selector, keys, nears, prefix);
     next.law();
     let classes = next.classes();
     for class in classes.as_slice() {
         prefix.push(*class);
-        push_after(old, new, selector, keys, near, more - 1, prefix, steps, out)?;
+        push_after(old, new, selector, keys, nears, more - 1, prefix, steps, out)?;
         prefix.pop();
     }
     Ok(())

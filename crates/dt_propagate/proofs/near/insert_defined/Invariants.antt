@@ -7,4 +7,4 @@ use Rattle.dt_propagate.proofs.near.insert_defined.Given as goal
 abbrev pub invariant-loop-defined : goal.invariant-loop-defined
 invariant-loop-defined l =
     (n : ℕ) → has_number l.next n ≡ (has_number l.fn.next n
-    || list_any (λ d. goes_on l.fn.graph.links l.fn.near false d.classes l.fn.prefix n) (take l.defined-index l.fn.definitions))
+    || list_any (λ d. goes_on l.fn.graph.links l.fn.nears false d.classes l.fn.prefix n) (take l.defined-index l.fn.definitions))

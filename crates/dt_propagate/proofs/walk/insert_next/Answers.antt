@@ -9,6 +9,6 @@ returns c n =
     let graph = c.graph-graph.ensures in
     let d = c.insert_defined.ensures n in
     let k = c.insert_redefined.ensures n in
-    inserted_next program c.args.selector c.args.keys.now c.args.near.now c.definitions_of.result.now prefix n
+    inserted_next program c.args.selector c.args.keys.now c.args.nears.now c.definitions_of.result.now prefix n
     (has_number c.args.next.now n) (has_number c.insert_defined.new.next n) (has_number c.insert_redefined.new.next n)
     c.definitions_of.ensures (rw graph at d) (rw graph at k)
