@@ -7,3 +7,4 @@ pub mod GoneThrough
 pub mod Leaf
 pub mod WalkSteps
 pub mod MarkSteps
+pub mod Cover
