@@ -176,6 +176,24 @@ module _ (old new : Program) (selector : ℕ) (keys : List DefinitionKey) (edite
       (λ there. names_low new differ.new_lawful position class there)
       (or_cases (names_at old selector position class) (names_at new selector position class) h)
 
+  names : (program : Program) (d : Definition) → In program.definitions d → d.selector ≡ selector → (position class : ℕ) →
+      has_at d.classes position class ≡ true → names_at program selector position class ≡ true
+  names program d i e position class there =
+      any_from_In (λ d. has_at d.classes position class) (definitions_of program selector) d
+      (In-filter (λ d. d.selector == selector) program.definitions d i (eq-eqb d.selector selector e)) there
+
+  pub names_old : NamesAll named selector old
+  names_old d there e = named_from named d.classes 0 (λ i at class same h.
+      let s : i ≡ at = omega (arith, same) in
+      or_left (names_at old selector at class) (names_at new selector at class)
+      (names old d (In-from_Contains old.definitions d there) e at class (subst (λ n. has_at d.classes n class ≡ true) s h)))
+
+  pub names_new : NamesAll named selector new
+  names_new d there e = named_from named d.classes 0 (λ i at class same h.
+      let s : i ≡ at = omega (arith, same) in
+      or_right (names_at old selector at class) (names_at new selector at class)
+      (names new d (In-from_Contains new.definitions d there) e at class (subst (λ n. has_at d.classes n class ≡ true) s h)))
+
   module _ (nears : List Near) (four : length nears ≡ 4) (tell : NearsTell old new selector 0 nears) where
     marks_tell : MarksTell (marked_at nears) named old new
     marks_tell = record {
@@ -184,24 +202,6 @@ module _ (old new : Program) (selector : ℕ) (keys : List DefinitionKey) (edite
       same_order = λ position class a b unmarked na nb below.
           same_order 0 nears tell position position class a b (omega arith) (omega (arith, four, named_low position a na)) unmarked na nb below;
     }
-
-    names : (program : Program) (d : Definition) → In program.definitions d → d.selector ≡ selector → (position class : ℕ) →
-        has_at d.classes position class ≡ true → names_at program selector position class ≡ true
-    names program d i e position class there =
-        any_from_In (λ d. has_at d.classes position class) (definitions_of program selector) d
-        (In-filter (λ d. d.selector == selector) program.definitions d i (eq-eqb d.selector selector e)) there
-
-    names_old : NamesAll named selector old
-    names_old d there e = named_from named d.classes 0 (λ i at class same h.
-        let s : i ≡ at = omega (arith, same) in
-        or_left (names_at old selector at class) (names_at new selector at class)
-        (names old d (In-from_Contains old.definitions d there) e at class (subst (λ n. has_at d.classes n class ≡ true) s h)))
-
-    names_new : NamesAll named selector new
-    names_new d there e = named_from named d.classes 0 (λ i at class same h.
-        let s : i ≡ at = omega (arith, same) in
-        or_right (names_at old selector at class) (names_at new selector at class)
-        (names new d (In-from_Contains new.definitions d there) e at class (subst (λ n. has_at d.classes n class ≡ true) s h)))
 
     -- a candidate goes on in its program
     candidate_goes : (program : Program) → Lawful program → AboveListed program.graph.links nears → (prefix : List ℕ) (class : ℕ) (rest : List ℕ) →

@@ -1,6 +1,7 @@
 -- What is told of every query stands in the order of queries, and nothing is missing.
-use Rattle.std.proofs.Common.{◌≡◌, ℕ, zero, suc, ◌<◌, IsTrue, List, [], ◌∷◌, ◌++◌, length, map, inl, inr, ◌⊎◌, ⊎_elim, refl, sym, ap, subst, ◌∙◌, arith, All, append_assoc, append-nil}
+use Rattle.std.proofs.Common.{◌≡◌, ℕ, zero, suc, ◌<◌, ◌≤◌, IsTrue, List, [], ◌∷◌, ◌++◌, length, map, inl, inr, ◌⊎◌, ⊎_elim, refl, sym, ap, subst, ◌∙◌, arith, All, append_assoc, append-nil}
 use Rattle.std.specs.Prelude.{nat_lt}
+use Rattle.std.proofs.lemmas.Bool.Decides.{nat_tests}
 use Rattle.std.specs.declared.cmp.Ordering.TheVariants.{Less, Equal}
 use Rattle.std.specs.Ordering.{nat_cmp}
 use Rattle.std.specs.Cmp.Lexicographic.{slice_cmp}
@@ -16,7 +17,7 @@ use Rattle.dt_graph.proofs.ListMembers.{In, In-from_append, In-map, In-from_map,
 use Rattle.dt_scratch.specs.Query.{Query, query_order}
 use Rattle.dt_propagate.specs.Boxes.{in_turn}
 use Rattle.dt_propagate.specs.Differences.{Ascending, AreAll, is_less}
-use Rattle.dt_propagate.specs.GoneThrough.{all_classes, all_selectors, told_after, told_of, told_of_all}
+use Rattle.dt_propagate.specs.GoneThrough.{all_arities, all_classes, all_selectors, told_after, told_of, told_of_all}
 use Rattle.dt_propagate.proofs.Boxes.{In-turn, In-from_turn, first_lower}
 
 -- ---- the numbers
@@ -32,6 +33,14 @@ class_listed n low = has_number-range 0 CLASSES n (omega arith) (omega (arith, l
 pub class_below : (n : ℕ) → IsTrue (has_number all_classes n) → n < CLASSES
 unfolding all_classes
 class_below n i = let low = has_number-range_below 0 CLASSES n i in omega (arith, low)
+
+pub arities_ascend : AscendingNumbers all_arities
+unfolding all_arities
+arities_ascend = (refl, (refl, (refl, tt)))
+
+pub arity_listed : (n : ℕ) → 0 < n → n ≤ 4 → IsTrue (has_number all_arities n)
+unfolding all_arities
+arity_listed n some few = grind (arith, nat_tests, some, few)
 
 pub selectors_ascend : AscendingNumbers all_selectors
 unfolding all_selectors
@@ -194,7 +203,7 @@ module _ {T : Type 0} (key : T → Query) where
           all_selectors selectors_ascend
 
       -- what is told is told of a query
-      told_of_one : (x : T) → In (told_of_all told arities) x → (query : Query) × In (told query) x
+      pub told_of_one : (x : T) → In (told_of_all told arities) x → (query : Query) × In (told query) x
       told_of_one x i =
           let s = In-from_turn (told_of told arities) all_selectors x i in
           let k = In-from_turn (λ arity. told_after told s.0 arity []) arities x s.2 in

@@ -7,4 +7,9 @@ pub mod GoneThrough
 pub mod Leaf
 pub mod WalkSteps
 pub mod MarkSteps
+pub mod Touching
 pub mod Cover
+pub mod AllDifferences
+pub mod EditedLists
+pub mod DifferNear
+pub mod Flags

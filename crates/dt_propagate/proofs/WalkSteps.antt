@@ -43,7 +43,7 @@ turns_filtered f test (c ∷ cs) none =
     (λ t. rw t (ap (λ xs. f c ++ xs) rest))
     (λ t. rw (t, none c (grind arith) t) rest)
 
-empty_list : {T : Type 0} (xs : List T) → ((x : T) → In xs x → ⊥) → xs ≡ []
+pub empty_list : {T : Type 0} (xs : List T) → ((x : T) → In xs x → ⊥) → xs ≡ []
 empty_list [] none = refl
 empty_list (x ∷ xs) none = absurd (none x (inl refl))
 

@@ -26,3 +26,7 @@ told_of told arities selector = in_turn (λ arity. told_after told selector arit
 -- and of those of all selectors
 abbrev pub told_of_all : {T : Type 0} → (Query → List T) → List ℕ → List T
 told_of_all told arities = in_turn (told_of told arities) all_selectors
+
+-- the numbers of arguments that a selector can take
+unfoldable pub all_arities : List ℕ
+all_arities = 1 ∷ 2 ∷ 3 ∷ 4 ∷ []

@@ -7,6 +7,7 @@ pub mod Understood
 pub mod GoneThrough
 pub mod Walk
 pub mod Marks
+pub mod Touched
 pub mod Boxes
 pub mod BoxLaws
 pub mod Counts

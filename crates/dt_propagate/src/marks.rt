@@ -1,4 +1,4 @@
-ghost use Rattle.std.specs.Prelude.{◌≡◌, ℕ, zero, false, ◌&&◌, ◌||◌, IsTrue, List};
+ghost use Rattle.std.specs.Prelude.{◌≡◌, ℕ, zero, false, ◌&&◌, ◌||◌, IsTrue, List, length};
 ghost use Rattle.std.specs.List.{list_any};
 ghost use Rattle.dt_graph.specs.Graph.{has_number};
 ghost use Rattle.dt_graph.specs.Below.{is_below};
@@ -138,7 +138,8 @@ fn near_at(old: &Program, new: &Program, selector: SelNo, edited: &ClassSet, pos
 
 // The marked classes of each position.
 pub(crate) fn nears(old: &Program, new: &Program, selector: SelNo, edited: &ClassSet) -> [Near; 4]
-    ensures { (keys : List DefinitionKey) → DifferNear old.now new.now keys edited.now
+    ensures four { length result ≡ 4 }
+    ensures tell { (keys : List DefinitionKey) → DifferNear old.now new.now keys edited.now
         → NearsTell old.now new.now selector 0 result }
 {
     [

@@ -1,15 +1,18 @@
-ghost use Rattle.std.specs.Prelude.{◌≡◌, ℕ, ◌+◌, ◌<◌, ◌≤◌, ◌||◌, ◌++◌, length, OnOk};
+ghost use Rattle.std.specs.Prelude.{◌≡◌, ℕ, ◌+◌, ◌<◌, ◌≤◌, ◌||◌, ◌++◌, [], length, OnOk};
 ghost use Rattle.dt_graph.specs.Graph.{has_number};
-ghost use Rattle.dt_propagate.specs.GoneThrough.{told_after};
+ghost use Rattle.dt_propagate.specs.GoneThrough.{all_arities, told_after, told_of, told_of_all};
+ghost use Rattle.dt_propagate.specs.Marks.{DifferNear};
+ghost use Rattle.dt_propagate.specs.Touched.{TouchAll, takes};
 ghost use Rattle.dt_propagate.specs.Walk.{GoesThroughAll, goes_next, goes_on_in, told_change};
 
+use crate::marks::nears;
 use crate::near::{Near, insert_defined, insert_redefined};
 use crate::told::{push_told, query_at};
 use arrayvec::ArrayVec;
 use dt_definitions::{DefinitionKey, Program};
 use dt_graph::{ClassNo, ClassSet, NoMemory, Steps};
 use dt_scratch::Change;
-use dt_selectors::SelNo;
+use dt_selectors::{SELECTORS, SelNo};
 use std::sync::ledger::Ledger;
 
 // The classes that go on from the prefix in the program are in the set from now on.
@@ -75,6 +78,104 @@ fn push_after<L: Ledger>(
         prefix.push(*class);
         push_after(old, new, selector, keys, nears, more - 1, prefix, steps, out)?;
         prefix.pop();
+    }
+    Ok(())
+}
+
+// Whether the selector takes so many arguments in the program.
+fn takes(program: &Program, selector: SelNo, arity: usize) -> bool
+    ensures { result ≡ takes program.now selector arity }
+{
+    match program.arity(selector) {
+        Some(takes) => usize::from(takes.number()) == arity,
+        None => false,
+    }
+}
+
+// What is told of the selector's queries with so many classes goes to the end.
+fn push_with_arity<L: Ledger>(
+    old: &Program,
+    new: &Program,
+    selector: SelNo,
+    keys: &[DefinitionKey],
+    edited: &ClassSet,
+    arity: usize,
+    steps: &mut Steps<L>,
+    out: &mut Vec<Change>,
+) -> Result<(), NoMemory>
+    requires near { DifferNear old.now new.now keys.now edited.now }
+    requires some { 0 < arity }
+    requires few { arity ≤ 4 }
+    ensures told { OnOk result (out.new.items ≡ out.old.items
+        ++ told_after (told_change old.now new.now) selector arity []) }
+{
+    if !takes(old, selector, arity) && !takes(new, selector, arity) {
+        return Ok(());
+    }
+    let nears = nears(old, new, selector, edited);
+    let mut prefix = ArrayVec::new();
+    push_after(old, new, selector, keys, &nears, arity, &mut prefix, steps, out)
+}
+
+// What is told of the selector's queries goes to the end.
+fn push_of<L: Ledger>(
+    old: &Program,
+    new: &Program,
+    selector: SelNo,
+    keys: &[DefinitionKey],
+    edited: &ClassSet,
+    steps: &mut Steps<L>,
+    out: &mut Vec<Change>,
+) -> Result<(), NoMemory>
+    requires near { DifferNear old.now new.now keys.now edited.now }
+    ensures told { OnOk result (out.new.items ≡ out.old.items ++ told_of (told_change old.now new.now) all_arities selector) }
+{
+    for arity in 1..5 {
+        push_with_arity(old, new, selector, keys, edited, arity, steps, out)?;
+    }
+    Ok(())
+}
+
+// The same, where the selector's flag is set.
+fn push_if_touched<L: Ledger>(
+    old: &Program,
+    new: &Program,
+    selector: SelNo,
+    keys: &[DefinitionKey],
+    edited: &ClassSet,
+    touched: &[bool],
+    steps: &mut Steps<L>,
+    out: &mut Vec<Change>,
+) -> Result<(), NoMemory>
+    requires near { DifferNear old.now new.now keys.now edited.now }
+    requires touched { TouchAll old.now new.now touched.now }
+    ensures told { OnOk result (out.new.items ≡ out.old.items ++ told_of (told_change old.now new.now) all_arities selector) }
+{
+    if !touched[usize::from(selector.number())] {
+        return Ok(());
+    }
+    push_of(old, new, selector, keys, edited, steps, out)
+}
+
+// What is told of the queries of all selectors whose flag is set goes to the end.
+pub(crate) fn push_all<L: Ledger>(
+    old: &Program,
+    new: &Program,
+    keys: &[DefinitionKey],
+    edited: &ClassSet,
+    touched: &[bool],
+    steps: &mut Steps<L>,
+    out: &mut Vec<Change>,
+) -> Result<(), NoMemory>
+    requires near { DifferNear old.now new.now keys.now edited.now }
+    requires touched { TouchAll old.now new.now touched.now }
+    ensures told { OnOk result (out.new.items ≡ out.old.items ++ told_of_all (told_change old.now new.now) all_arities) }
+{
+    for number in 0..SELECTORS {
+        let Some(selector) = SelNo::new(number) else {
+            unreachable!();
+        };
+        push_if_touched(old, new, selector, keys, edited, touched, steps, out)?;
     }
     Ok(())
 }
