@@ -13,3 +13,4 @@ pub mod AllDifferences
 pub mod EditedLists
 pub mod DifferNear
 pub mod Flags
+pub mod Begun

@@ -8,6 +8,7 @@ pub mod GoneThrough
 pub mod Walk
 pub mod Marks
 pub mod Touched
+pub mod Begun
 pub mod Boxes
 pub mod BoxLaws
 pub mod Counts

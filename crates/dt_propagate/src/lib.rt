@@ -1,6 +1,7 @@
 //! What an edit changes: the queries whose cells differ between two programs. So far the laws by which they are found.
 #![tactic(auto)]
 
+mod count;
 mod differences;
 mod edited;
 mod laws;

@@ -1,0 +1,37 @@
+-- The lists of classes that begin below the definitions of a selector, as they are counted.
+use Rattle.std.specs.Prelude.{◌==◌, ℕ, Bool, false, true, ◌&&◌, nat_lt, nat_le, if◌then◌else◌, List, [], ◌∷◌, Option, None, Some}
+use Rattle.std.specs.List.{list_any}
+use Rattle.std.specs.Option.{option_map_or}
+use Rattle.dt_graph.specs.Graph.{Link}
+use Rattle.dt_graph.specs.Below.{is_below}
+use Rattle.dt_definitions.specs.Program.{Program, arity_of, definitions_of}
+use Rattle.dt_scratch.specs.Query.{Query}
+
+-- whether each class is below the one in the same position; there may be fewer
+abbrev pub begins : List Link → List ℕ → List ℕ → Bool
+begins links [] highs = true
+begins links (class ∷ classes) [] = false
+begins links (class ∷ classes) (high ∷ highs) = is_below links class high && begins links classes highs
+
+-- whether the query's classes begin so below one of the definitions of its selector
+abbrev pub is_begun_query : Program → Query → Bool
+is_begun_query program query =
+    list_any (λ d. begins program.graph.links query.classes d.classes) (definitions_of program query.selector)
+
+-- the query itself, if they do
+abbrev pub told_begun : Program → Query → List Query
+told_begun program query = if is_begun_query program query then query ∷ [] else []
+
+-- whether the class goes on from the prefix below these classes
+abbrev pub goes_begun : List Link → List ℕ → List ℕ → ℕ → Bool
+goes_begun links [] prefix class = false
+goes_begun links (high ∷ highs) [] class = is_below links class high
+goes_begun links (high ∷ highs) (first ∷ prefix) class = is_below links first high && goes_begun links highs prefix class
+
+-- the number, if it is at most this
+abbrev pub up_to : ℕ → ℕ → Option ℕ
+up_to most n = if nat_le n most then Some n else None
+
+-- a query with as many classes as its selector takes, and one with fewer, if they begin below one of its definitions
+abbrev pub takes_with : (ℕ → ℕ → Bool) → Program → Query → ℕ → Bool
+takes_with test program query count = option_map_or (λ arity. test count arity) (arity_of program query.selector) false
