@@ -47,7 +47,7 @@ module _ (program : Program) (lawful : Lawful program) where
       rw (t, there) refl)
       (λ f. and_right (is_live g low) (is_below g.links low high) f ∙ sym f)
 
-  within_is : (classes highs : List ℕ) → All IsLive highs →
+  pub within_is : (classes highs : List ℕ) → All IsLive highs →
       is_within [] (map (descendants g) highs) false classes ≡ are_below g.links classes highs
   within_is [] [] live = refl
   within_is (class ∷ classes) [] live = refl
@@ -59,7 +59,7 @@ module _ (program : Program) (lawful : Lawful program) where
   own d i = All-In (LawfulDefinition program) program.definitions d lawful.definitions_lawful i
 
   -- the selector's definitions that are applicable are those whose box has the classes
-  held_is : (query : Query) → is_within_any [] (boxes_of program query.selector) query.classes
+  pub held_is : (query : Query) → is_within_any [] (boxes_of program query.selector) query.classes
       ≡ list_any (λ d. is_within [] (map (descendants g) d.classes) false query.classes) (definitions_of program query.selector)
   held_is query = list_any-map (box_of program) (λ (box : Box). is_within [] box.sets box.needs_marked query.classes) (definitions_of program query.selector)
 
@@ -123,7 +123,7 @@ module _ (program : Program) (lawful : Lawful program) where
       let rest = goes_on prefix highs (All-tail IsLive high highs live) parts.1 in
       (rest.0, rest.1, and_from (has_number (descendants g high) class) (is_within [] (map (descendants g) highs) false (prefix ++ rest.0)) parts.0 rest.2)
 
-  begun_is : (prefix : Query) → is_begun_any (boxes_of program prefix.selector) prefix.classes
+  pub begun_is : (prefix : Query) → is_begun_any (boxes_of program prefix.selector) prefix.classes
       ≡ list_any (λ d. is_begun (map (descendants g) d.classes) prefix.classes) (definitions_of program prefix.selector)
   begun_is prefix = list_any-map (box_of program) (λ (box : Box). is_begun box.sets prefix.classes) (definitions_of program prefix.selector)
 

@@ -14,3 +14,5 @@ pub mod EditedLists
 pub mod DifferNear
 pub mod Flags
 pub mod Begun
+pub mod Totals
+pub mod CellsAndRows

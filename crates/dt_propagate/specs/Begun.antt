@@ -1,11 +1,12 @@
 -- The lists of classes that begin below the definitions of a selector, as they are counted.
-use Rattle.std.specs.Prelude.{◌==◌, ℕ, Bool, false, true, ◌&&◌, nat_lt, nat_le, if◌then◌else◌, List, [], ◌∷◌, Option, None, Some}
+use Rattle.std.specs.Prelude.{◌==◌, ℕ, Bool, false, true, ◌&&◌, nat_lt, nat_le, if◌then◌else◌, List, [], ◌∷◌, length, Option, None, Some}
 use Rattle.std.specs.List.{list_any}
 use Rattle.std.specs.Option.{option_map_or}
 use Rattle.dt_graph.specs.Graph.{Link}
 use Rattle.dt_graph.specs.Below.{is_below}
 use Rattle.dt_definitions.specs.Program.{Program, arity_of, definitions_of}
 use Rattle.dt_scratch.specs.Query.{Query}
+use Rattle.dt_propagate.specs.Touched.{takes}
 
 -- whether each class is below the one in the same position; there may be fewer
 abbrev pub begins : List Link → List ℕ → List ℕ → Bool
@@ -32,6 +33,24 @@ goes_begun links (high ∷ highs) (first ∷ prefix) class = is_below links firs
 abbrev pub up_to : ℕ → ℕ → Option ℕ
 up_to most n = if nat_le n most then Some n else None
 
--- a query with as many classes as its selector takes, and one with fewer, if they begin below one of its definitions
-abbrev pub takes_with : (ℕ → ℕ → Bool) → Program → Query → ℕ → Bool
-takes_with test program query count = option_map_or (λ arity. test count arity) (arity_of program query.selector) false
+-- the query itself, if its selector takes so many classes and it begins below one of the definitions: a cell
+abbrev pub told_cell : Program → Query → List Query
+told_cell program query =
+    if takes program query.selector (length query.classes) && is_begun_query program query then query ∷ [] else []
+
+-- how many arguments the selector takes; 0 where it isn't live
+abbrev pub arity_or_none : Program → ℕ → ℕ
+arity_or_none program selector = option_map_or (λ arity. arity) (arity_of program selector) 0
+
+-- whether the selector takes more arguments
+abbrev pub takes_more : Program → ℕ → ℕ → Bool
+takes_more program selector count = option_map_or (λ arity. nat_lt count arity) (arity_of program selector) false
+
+-- the query itself, if its selector takes more classes and it begins below one of the definitions: a row
+abbrev pub told_row : Program → Query → List Query
+told_row program query =
+    if takes_more program query.selector (length query.classes) && is_begun_query program query then query ∷ [] else []
+
+-- how many classes a row can have
+unfoldable pub row_lengths : List ℕ
+row_lengths = 0 ∷ 1 ∷ 2 ∷ 3 ∷ []

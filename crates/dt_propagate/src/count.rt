@@ -1,14 +1,14 @@
-ghost use Rattle.std.specs.Prelude.{◌≡◌, ◌||◌, ℕ, ◌+◌, ◌<◌, ◌≤◌, length};
+ghost use Rattle.std.specs.Prelude.{◌≡◌, ◌||◌, ℕ, ◌+◌, ◌<◌, ◌≤◌, [], length};
 ghost use Rattle.std.specs.List.{list_any};
 ghost use Rattle.dt_graph.specs.Graph.{has_number};
-ghost use Rattle.dt_propagate.specs.Begun.{goes_begun, told_begun, up_to};
-ghost use Rattle.dt_propagate.specs.GoneThrough.{told_after};
+ghost use Rattle.dt_propagate.specs.Begun.{arity_or_none, goes_begun, row_lengths, told_begun, told_cell, told_row, up_to};
+ghost use Rattle.dt_propagate.specs.GoneThrough.{all_arities, told_after, told_of, told_of_all};
 ghost use Rattle.dt_definitions.specs.Program.{definitions_of};
 
 use arrayvec::ArrayVec;
 use dt_definitions::{Defined, Program};
 use dt_graph::{ClassGraph, ClassNo, ClassSet};
-use dt_selectors::SelNo;
+use dt_selectors::{SELECTORS, SelNo};
 
 // The classes that go on from the prefix below these are in the set from now on.
 fn insert_begun(graph: &ClassGraph, highs: &[ClassNo], prefix: &[ClassNo], next: &mut ClassSet)
@@ -73,4 +73,89 @@ fn count_after(
         count += after?;
     }
     Some(count)
+}
+
+// 1 where the selector has a definition, so that the list with no class begins below it, and else 0.
+fn begun_alone(program: &Program, selector: SelNo) -> u32
+    ensures { result ≡ length (told_after (told_begun program.now) selector 0 []) }
+{
+    match program.definitions_of(selector) {
+        [] => 0,
+        [_first, ..] => 1,
+    }
+}
+
+// How many lists of so many classes begin below the selector's definitions; `None` where they are more than `most`.
+fn count_begun(program: &Program, selector: SelNo, count: usize, most: u32) -> Option<u32>
+    requires { count ≤ 4 }
+    ensures { result ≡ up_to most (length (told_after (told_begun program.now) selector count [])) }
+{
+    if count == 0 {
+        return up_to(most, begun_alone(program, selector));
+    }
+    let mut prefix = ArrayVec::new();
+    count_after(program, selector, count, &mut prefix, most)
+}
+
+// How many arguments the selector takes; 0 where it isn't live.
+fn arity_or_none(program: &Program, selector: SelNo) -> usize
+    ensures value { result ≡ arity_or_none program.now selector }
+    ensures few { result ≤ 4 }
+{
+    match program.arity(selector) {
+        Some(arity) => usize::from(arity.number()),
+        None => 0,
+    }
+}
+
+// How many cells of the selector are understood; `None` where they are more than `most`.
+fn cells_of(program: &Program, selector: SelNo, most: u32) -> Option<u32>
+    ensures { result ≡ up_to most (length (told_of (told_cell program.now) all_arities selector)) }
+{
+    program.law();
+    let arity = arity_or_none(program, selector);
+    if arity == 0 {
+        return up_to(most, 0);
+    }
+    count_begun(program, selector, arity, most)
+}
+
+// How many rows the selector has; `None` where they are more than `most`.
+fn rows_of(program: &Program, selector: SelNo, most: u32) -> Option<u32>
+    ensures { result ≡ up_to most (length (told_of (told_row program.now) row_lengths selector)) }
+{
+    program.law();
+    let mut rows = 0;
+    for count in 0..arity_or_none(program, selector) {
+        rows += count_begun(program, selector, count, most - rows)?;
+    }
+    Some(rows)
+}
+
+// How many cells are understood; `None` where they are more than `most`.
+pub(crate) fn count_cells(program: &Program, most: u32) -> Option<u32>
+    ensures { result ≡ up_to most (length (told_of_all (told_cell program.now) all_arities)) }
+{
+    let mut cells = 0;
+    for number in 0..SELECTORS {
+        let Some(selector) = SelNo::new(number) else {
+            unreachable!();
+        };
+        cells += cells_of(program, selector, most - cells)?;
+    }
+    Some(cells)
+}
+
+// How many rows there are; `None` where they are more than `most`.
+pub(crate) fn count_rows(program: &Program, most: u32) -> Option<u32>
+    ensures { result ≡ up_to most (length (told_of_all (told_row program.now) row_lengths)) }
+{
+    let mut rows = 0;
+    for number in 0..SELECTORS {
+        let Some(selector) = SelNo::new(number) else {
+            unreachable!();
+        };
+        rows += rows_of(program, selector, most - rows)?;
+    }
+    Some(rows)
 }
