@@ -16,3 +16,4 @@ pub mod Flags
 pub mod Begun
 pub mod Totals
 pub mod CellsAndRows
+pub mod MoreThan

@@ -4,6 +4,7 @@
 -- has. The laws below it say by which boxes of class lists the changes, the cells and the rows are found.
 pub mod Differences
 pub mod Understood
+pub mod Limits
 pub mod GoneThrough
 pub mod Walk
 pub mod Marks

@@ -1,14 +1,23 @@
-//! What an edit changes: the queries whose cells differ between two programs. So far the laws by which they are found.
+//! What an edit changes: the queries whose cells differ between two programs.
 #![tactic(auto)]
+
+mod change_fault;
 
 mod count;
 mod differences;
 mod edited;
+mod full;
 mod laws;
+mod limits;
 mod marks;
 mod near;
 mod told;
 mod touched;
 mod walk;
+mod what_changes;
+
+pub use change_fault::ChangeFault;
 
 pub use laws::{boxes_hold, candidates_are_held, finer_marks_serve, understood_is_held};
+pub use limits::{CELLS, ROWS};
+pub use what_changes::changes;
