@@ -7,3 +7,6 @@ pub mod SameLogs
 pub mod HistoryGrows
 pub mod CallersFollow
 pub mod PerformedOutcome
+pub mod KnownNumbers
+pub mod NamedOutcome
+pub mod Endings

@@ -155,10 +155,34 @@ took_prefix old new text front rest taken split = (
   subst (Appends old new) (sym (ap (take (length front)) split ∙ take-append_seam front rest)) taken,
 )
 
+-- where putting a text was cut off, the sink took a prefix
+pub cut : (old new : Option (List ℕ)) (faults faults' : ℕ) (start held text : List ℕ) → start ≡ []
+    → IsCutOff (out_of old faults start) (out_of new faults' held) text → AppendsPrefix old new text
+cut old new faults faults' start held text empty (rest, t, once, counts) =
+    took_prefix old new text t.front rest t.appended (ap (λ l. l ++ text) (sym empty) ∙ t.split)
+
 pub cut_short : (old new : Option (List ℕ)) (faults faults' : ℕ) (start held : List ℕ) (book : NameBook) (log : Log) → start ≡ [] → IsTrue (is_named book log)
     → IsCutOff (out_of old faults start) (out_of new faults' held) (log_text book log) → TookPrefix book log old new
-cut_short old new faults faults' start held book log empty named (rest, t, once, counts) =
-    (log_text book log, named_text book log named, took_prefix old new (log_text book log) t.front rest t.appended (ap (λ l. l ++ log_text book log) (sym empty) ∙ t.split))
+cut_short old new faults faults' start held book log empty named off =
+    (log_text book log, named_text book log named, cut old new faults faults' start held (log_text book log) empty off)
+
+-- what putting a text and then what is held says of the sink, whose count says whether it failed
+pub flushed : {E : Type 0} (r : Result Unit E) (old new : Option (List ℕ)) (faults faults' : ℕ) (start held text : List ℕ) → start ≡ []
+    → OnOk r (held ≡ []) → Put r (out_of old faults start) (out_of new faults' held) text
+    → OnOk r (Appends old new text) × AppendsPrefix old new text × IsCounted r faults faults' × (faults ≤ faults')
+flushed (Ok done) old new faults faults' start held text empty none (t, same) =
+    let split : text ≡ t.front ++ [] = ap (λ l. l ++ text) (sym empty) ∙ t.split ∙ ap (λ l. t.front ++ l) none in (
+      subst (Appends old new) (sym (split ∙ append-nil t.front)) t.appended,
+      took_prefix old new text t.front [] t.appended split,
+      same,
+      omega (arith, same),
+    )
+flushed (Err fault) old new faults faults' start held text empty none off =
+    (tt, cut old new faults faults' start held text empty off, off.2, off.3)
+
+on_ok : {E P Q : Type 0} (r : Result Unit E) → OnOk r P → (P → Q) → OnOk r Q
+on_ok (Ok done) holds then = then holds
+on_ok (Err fault) holds then = tt
 
 -- what printing says of the sink
 abbrev Printed : {E : Type 0} → Result Unit E → Option (List ℕ) → Option (List ℕ) → ℕ → ℕ → NameBook → Log → Type 0
@@ -167,12 +191,7 @@ Printed r old new faults faults' book log =
 
 pub printed : {E : Type 0} (r : Result Unit E) (old new : Option (List ℕ)) (faults faults' : ℕ) (start held : List ℕ) (book : NameBook) (log : Log) → start ≡ [] → IsTrue (is_named book log)
     → OnOk r (held ≡ []) → Put r (out_of old faults start) (out_of new faults' held) (log_text book log) → Printed r old new faults faults' book log
-printed (Ok done) old new faults faults' start held book log empty named none (t, same) = let text = log_text book log in
-    let split : text ≡ t.front ++ [] = ap (λ l. l ++ text) (sym empty) ∙ t.split ∙ ap (λ l. t.front ++ l) none in (
-      (text, named_text book log named, subst (Appends old new) (sym (split ∙ append-nil t.front)) t.appended),
-      (text, named_text book log named, took_prefix old new text t.front [] t.appended split),
-      same,
-      omega (arith, same),
-    )
-printed (Err fault) old new faults faults' start held book log empty named none (rest, t, once, counts) =
-    (tt, cut_short old new faults faults' start held book log empty named (rest, t, once, counts), once, counts)
+printed r old new faults faults' start held book log empty named none put =
+    let all = flushed r old new faults faults' start held (log_text book log) empty none put in
+    let is = named_text book log named in
+    (on_ok r all.0 (λ taken. (log_text book log, is, taken)), (log_text book log, is, all.1), all.2, all.3)

@@ -12,6 +12,9 @@ pub mod Printed
 pub mod Shape
 pub mod TextLaws
 pub mod Status
+pub mod FaultText
+pub mod Run
+pub mod Ending
 -- Worked examples.
 pub mod OutcomeExamples
 pub mod TextExamples

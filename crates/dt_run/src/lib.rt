@@ -5,6 +5,7 @@ mod laws;
 mod log;
 mod perform;
 mod print;
+mod running;
 mod status;
 mod turnstile;
 
@@ -12,5 +13,6 @@ pub use laws::logs_are_determined_by_their_texts;
 pub use log::{CallLine, EditLine, Log, PartLog, PhaseLog, Stamped};
 pub use perform::perform_script;
 pub use print::print_log;
+pub use running::{Ran, run};
 pub use status::Status;
 pub use turnstile::{OpenTurnstile, Turnstile};

@@ -1,0 +1,206 @@
+ghost use Rattle.std.specs.Prelude.{◌≡◌, ◌≢◌, ℕ, ◌+◌, ◌≤◌, ◌⊎◌, List, None, Some, IsTrue, IfSome, length};
+ghost use Rattle.dt_outside.specs.Faults.{Rose, one_fault_more};
+ghost use Rattle.dt_outside.specs.Losing.{LosesAtMost};
+ghost use Rattle.dt_outside.specs.Putting.{Told};
+ghost use Rattle.dt_script.specs.Named.{HasNames};
+ghost use Rattle.dt_script.specs.Playable.{Playable};
+ghost use Rattle.dt_script.specs.Script as shown;
+ghost use Rattle.dt_script.specs.ScriptOf.{IsScriptOf, IsFaultOf};
+ghost use Rattle.dt_script.specs.declared.limits.TheConstants.{CALLERS, SCRIPT_BYTES};
+ghost use Rattle.dt_run.specs.Ending.{outside, readers_of, status_of, Ending, RunEnding, Performed};
+ghost use Rattle.dt_run.specs.FaultText.{fault_text, usage_text};
+ghost use Rattle.dt_run.specs.Outcome.{Outcome};
+ghost use Rattle.dt_run.specs.Run.{IsScript, IsNoScript};
+ghost use Rattle.dt_words.specs.declared.limits.TheConstants.{VERSIONS};
+
+use crate::log::Log;
+use crate::perform::perform_script;
+use crate::print::{print_fault, print_log};
+use crate::status::Status;
+use crate::turnstile::Turnstile;
+use dt_definitions::NoMemory;
+use dt_outside::{Failed, Sink, Source, put_all};
+use dt_script::{
+    Script, ScriptFault, bytes_have_one_answer, read_script, scripts_read_are_playable,
+};
+use dt_words::{ArgWords, Command, VERSIONS, WordsFault, read_words};
+use std::alloc::Global;
+use std::thread::Threads;
+
+/// How a run ended, and the log of what was performed: it is there exactly where the status is done or a write fault.
+#[derive(Debug, Drop)]
+pub struct Ran {
+    /// How the run ended.
+    pub status: Status,
+    /// What was performed: there at done and at a write fault alone.
+    pub log: Option<Log>,
+}
+
+// What is told where the words aren't a command.
+const USAGE: &str =
+    "usage: dispatch run --table sti|colour|row|mrd [--readers R] [--pages P] [--limit L]\n       dispatch gen --table sti|colour|row|mrd --number N --classes C --selectors S\n";
+
+// The status that a fault ends with.
+fn status_of(fault: ScriptFault) -> Status
+    ensures { result ≡ status_of fault }
+{
+    match fault {
+        ScriptFault::ReadFault => Status::ReadFault,
+        ScriptFault::NoMemory => Status::NoMemory,
+        _ => Status::Script,
+    }
+}
+
+// Puts the usage text. A sink that fails here changes nothing of the status.
+fn end_with_usage<K: Sink>(sink: &mut K) -> Ran
+    ensures status { result.status ≡ Status.Usage }
+    ensures log { result.log ≡ None }
+    ensures told { Told (K.taken sink.old) (K.taken sink.new) (K.faults sink.old) (K.faults sink.new) usage_text }
+    ensures counted { (K.faults sink.new ≡ K.faults sink.old) ⊎ (K.faults sink.new ≡ one_fault_more (K.faults sink.old)) }
+    ensures counts { K.faults sink.old ≤ K.faults sink.new }
+{
+    let _ = put_all(sink, USAGE.as_bytes());
+    Ran {
+        status: Status::Usage,
+        log: None,
+    }
+}
+
+// Puts the line of a fault, and ends with its status.
+fn end_with_fault<K: Sink>(sink: &mut K, fault: ScriptFault) -> Ran
+    ensures status { result.status ≡ status_of fault }
+    ensures log { result.log ≡ None }
+    ensures told { Told (K.taken sink.old) (K.taken sink.new) (K.faults sink.old) (K.faults sink.new) (fault_text fault) }
+    ensures counted { (K.faults sink.new ≡ K.faults sink.old) ⊎ (K.faults sink.new ≡ one_fault_more (K.faults sink.old)) }
+    ensures counts { K.faults sink.old ≤ K.faults sink.new }
+{
+    let _ = print_fault(sink, fault);
+    Ran {
+        status: status_of(fault),
+        log: None,
+    }
+}
+
+// Prints the log of a script, and hands it back.
+fn print<K: Sink>(sink: &mut K, script: &Script, log: Log) -> Ran
+    requires names { HasNames script.now }
+    requires outcome { Outcome script.now VERSIONS log }
+    ensures printed { (readers : ℕ) (bytes : List ℕ) → IsScriptOf readers bytes script.now
+        → Performed readers bytes result.status result.log
+        (outside None 0 (K.taken sink.old) (K.faults sink.old)) (outside None 0 (K.taken sink.new) (K.faults sink.new)) }
+    ensures counts { K.faults sink.old ≤ K.faults sink.new }
+{
+    let status = match print_log(&log, &script.names, sink) {
+        Ok(()) => Status::Done,
+        Err(Failed) => Status::WriteFault,
+    };
+    Ran {
+        status,
+        log: Some(log),
+    }
+}
+
+// Performs a script, and prints its log.
+fn perform_and_print<K: Sink, T: Turnstile>(
+    alloc: Global,
+    sink: &mut K,
+    script: &Script,
+    readers: u16,
+    turnstile: &T,
+) -> Ran
+    requires playable { Playable readers script.now }
+    requires names { HasNames script.now }
+    ensures ends { (bytes : List ℕ) → IsScriptOf readers bytes script.now
+        → Performed readers bytes result.status result.log
+        (outside None 0 (K.taken sink.old) (K.faults sink.old)) (outside None 0 (K.taken sink.new) (K.faults sink.new)) }
+    ensures counts { K.faults sink.old ≤ K.faults sink.new }
+{
+    match perform_script(alloc, script, readers, VERSIONS, turnstile) {
+        Ok(log) => print(sink, script, log),
+        Err(NoMemory) => end_with_fault(sink, ScriptFault::NoMemory),
+    }
+}
+
+// Reads the source to its end, performs the script that its bytes are, and prints the log.
+fn run_source<S: Source, K: Sink, T: Turnstile>(
+    alloc: Global,
+    source: &mut S,
+    sink: &mut K,
+    readers: u16,
+    turnstile: &T,
+) -> Ran
+    requires least { 1 ≤ readers }
+    requires greatest { readers ≤ CALLERS }
+    ensures ends { Ending readers result.status result.log
+        (outside (S.left source.old) (S.faults source.old) (K.taken sink.old) (K.faults sink.old))
+        (outside (S.left source.new) (S.faults source.new) (K.taken sink.new) (K.faults sink.new)) }
+    ensures lost { LosesAtMost (SCRIPT_BYTES + 1) (S.left source.old) (S.left source.new) }
+    ensures source_counts { S.faults source.old ≤ S.faults source.new }
+    ensures sink_counts { K.faults sink.old ≤ K.faults sink.new }
+{
+    scripts_read_are_playable();
+    match read_script(alloc, source, readers) {
+        Ok(script) => perform_and_print(alloc, sink, &script, readers, turnstile),
+        Err(fault) => end_with_fault(sink, fault),
+    }
+}
+
+/// Runs the program: reads the words, then the source to its end, performs the script, and prints the log to the sink.
+/// Whichever table the words name, each call is answered by look-up from scratch, after the edits of its phase.
+///
+/// The status tells how it ended. [`Status::Done`]: the bytes are a script for as many readers as the words say, the log
+/// is an outcome of it, and the sink took its text. [`Status::Usage`]: exactly where the words ask for no run and memory
+/// was found to read them; the source wasn't read. [`Status::Script`]: the source gave more bytes than a script may have,
+/// or its bytes to the end have a fault, which is told. [`Status::ReadFault`]: the source failed.
+/// [`Status::WriteFault`]: the sink failed while the log was printed, and took a prefix of its text.
+/// [`Status::NoMemory`]: memory was wanted. Where the status is another than done or a write fault, the sink took the
+/// text of the fault, or a prefix of it where the sink failed. It starts no thread.
+///
+/// The source's count of faults is one more at a read fault, and else it stands as it was; the sink's is as it was at done
+/// and one more at a write fault. Nothing is read after a fault, after the end, or after one byte more than a script may
+/// have; and nothing is put after a fault. Printing takes no memory.
+pub fn run<H: Threads + Sync, S: Source, K: Sink, T: Turnstile>(
+    _rt: &H,
+    alloc: Global,
+    words: &ArgWords,
+    source: &mut S,
+    sink: &mut K,
+    turnstile: &T,
+) -> Ran
+    // How it ends, status by status. At done it is the headline, for scripts whose calls come after the edits of their
+    // phase.
+    ensures ends { RunEnding words.now result.status result.log
+        (outside (S.left source.old) (S.faults source.old) (K.taken sink.old) (K.faults sink.old))
+        (outside (S.left source.new) (S.faults source.new) (K.taken sink.new) (K.faults sink.new)) }
+
+    // The words decide whether there is a command.
+    ensures usage { readers_of words.now ≡ None → (result.status ≡ Status.Usage) ⊎ (result.status ≡ Status.NoMemory) }
+    ensures usage_unread { result.status ≡ Status.Usage → source.new ≡ source.old }
+
+    // A fault of a script is always found, and a script is always performed, unless the outside fails or memory is
+    // wanted.
+    ensures script_always { (readers : ℕ) → readers_of words.now ≡ Some readers
+        → (Rose (S.faults source.old) (S.faults source.new) → ⊥)
+        → IfSome (S.left source.old) (λ bytes. IsNoScript readers bytes
+        → (result.status ≡ Status.Script) ⊎ (result.status ≡ Status.NoMemory)) }
+    ensures complete { (readers : ℕ) → readers_of words.now ≡ Some readers
+        → (Rose (S.faults source.old) (S.faults source.new) → ⊥)
+        → (Rose (K.faults sink.old) (K.faults sink.new) → ⊥)
+        → IfSome (S.left source.old) (λ bytes. IsScript readers bytes
+        → (result.status ≡ Status.Done) ⊎ (result.status ≡ Status.NoMemory)) }
+
+    // What is read, and the counts.
+    ensures reads_at_most { LosesAtMost (SCRIPT_BYTES + 1) (S.left source.old) (S.left source.new) }
+    ensures source_counts { S.faults source.old ≤ S.faults source.new }
+    ensures sink_counts { K.faults sink.old ≤ K.faults sink.new }
+{
+    bytes_have_one_answer();
+    match read_words(alloc, words) {
+        Ok(Command::Run { table: _, limits }) => {
+            run_source(alloc, source, sink, limits.readers(), turnstile)
+        }
+        Ok(Command::Gen { .. }) => end_with_usage(sink),
+        Err(WordsFault::Usage) => end_with_usage(sink),
+        Err(WordsFault::NoMemory) => end_with_fault(sink, ScriptFault::NoMemory),
+    }
+}
