@@ -3,7 +3,7 @@ ghost use Rattle.std.specs.Vec.Iter.{into_iter_items};
 ghost use Rattle.std.specs.IoError.{error_kind};
 
 use dt_graph::NoMemory;
-use dt_first::ArgWords;
+use dt_words::ArgWords;
 use std::alloc::Global;
 use std::env::Args;
 use std::io;

@@ -4,7 +4,7 @@
 mod command_line;
 mod program;
 
-use dt_first::outside::{StdSink, StdSource};
+use dt_outside::{StdSink, StdSource};
 use program::exit_status;
 use std::env;
 use std::process::ExitCode;

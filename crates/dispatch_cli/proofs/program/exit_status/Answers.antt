@@ -1,7 +1,9 @@
 use Rattle.std.proofs.Common.{◌≡◌, ◌∙◌, ap, inl, inr, refl}
-use Rattle.dt_first.specs.Status.{number_of}
-use Rattle.dt_first.specs.declared.status.Status.TheVariants.{NoMemory}
-use Rattle.dispatch_cli.proofs.Words.{words_decide, where_words, whatever_words, whatever_bytes, numbers_end}
+use Rattle.dt_run.specs.Ending.{readers_of}
+use Rattle.dt_run.specs.Run.{IsScript, IsNoScript}
+use Rattle.dt_run.specs.Status.{number_of}
+use Rattle.dt_run.specs.declared.status.Status.TheVariants.{Done, Usage, Script, NoMemory}
+use Rattle.dispatch_cli.proofs.Words.{given_words, numbers_say, numbers_end, whatever_bytes}
 use Rattle.dispatch_cli.proofs.program.exit_status.Goals.{in-Ok, in-Err}
 use Rattle.dispatch_cli.proofs.program.exit_status.Goals as goal
 
@@ -10,7 +12,7 @@ returns-clause-ends g c = elim c.match-words_of.branch [
   | in-Ok w ↦ (
     w.run.result.status,
     c.number.ensures ∙ ap number_of w.status-is,
-    inl (w.run.result.log, rw w.source-is (rw w.sink-is w.run.ensures.ends)),
+    inl (w.run.result.log, rw (← given_words _ _ _ w.in-Ok.words w.in-Ok.ensures) (rw w.source-is (rw w.sink-is w.run.ensures.ends))),
   )
   | in-Err w ↦ (
     NoMemory,
@@ -19,20 +21,29 @@ returns-clause-ends g c = elim c.match-words_of.branch [
   )
 ]
 
-pub returns-clause-words : goal.returns-clause-words
-returns-clause-words g c = λ not_six. elim c.match-words_of.branch [
+pub returns-clause-usage : goal.returns-clause-usage
+returns-clause-usage g c = λ none. elim c.match-words_of.branch [
   | in-Ok w ↦
       let e : c.number.result ≡ number_of w.run.result.status = c.number.ensures ∙ ap number_of w.status-is in
-      rw e (words_decide _ _ _ w.in-Ok.words _ w.in-Ok.ensures w.run.ensures.usage)
-  | in-Err w ↦ absurd (not_six (c.number.ensures ∙ ap number_of w.status-is))
+      numbers_say w.run.result.status Usage NoMemory e (w.run.ensures.usage (ap readers_of (given_words _ _ _ w.in-Ok.words w.in-Ok.ensures) ∙ none))
+  | in-Err w ↦ inr (c.number.ensures ∙ ap number_of w.status-is)
+]
+
+pub returns-clause-script_always : goal.returns-clause-script_always
+returns-clause-script_always g c = λ readers asked calm. elim c.match-words_of.branch [
+  | in-Ok w ↦
+      let e : c.number.result ≡ number_of w.run.result.status = c.number.ensures ∙ ap number_of w.status-is in
+      numbers_end w.run.result.status Script NoMemory (IsNoScript readers) _ e
+      (w.run.ensures.script_always readers (ap readers_of (given_words _ _ _ w.in-Ok.words w.in-Ok.ensures) ∙ asked) (rw (← w.source-is) calm))
+  | in-Err w ↦ whatever_bytes _ (IsNoScript readers) _ (inr (c.number.ensures ∙ ap number_of w.status-is))
 ]
 
 pub returns-clause-complete : goal.returns-clause-complete
-returns-clause-complete g c = elim c.match-words_of.branch [
+returns-clause-complete g c = λ readers asked calm calm_sink. elim c.match-words_of.branch [
   | in-Ok w ↦
       let e : c.number.result ≡ number_of w.run.result.status = c.number.ensures ∙ ap number_of w.status-is in
-      where_words _ _ _ w.in-Ok.words _ w.in-Ok.ensures (λ same calm calm_sink.
-      numbers_end _ _ e (w.run.ensures.complete same (rw (← w.source-is) calm) (rw (← w.sink-is) calm_sink)))
-  | in-Err w ↦ whatever_words _ _ _ (λ calm calm_sink.
-      whatever_bytes _ _ (inr (c.number.ensures ∙ ap number_of w.status-is)))
+      numbers_end w.run.result.status Done NoMemory (IsScript readers) _ e
+      (w.run.ensures.complete readers (ap readers_of (given_words _ _ _ w.in-Ok.words w.in-Ok.ensures) ∙ asked)
+      (rw (← w.source-is) calm) (rw (← w.sink-is) calm_sink))
+  | in-Err w ↦ whatever_bytes _ (IsScript readers) _ (inr (c.number.ensures ∙ ap number_of w.status-is))
 ]
