@@ -1,14 +1,11 @@
--- A definition as it was before a change.
-use Rattle.std.proofs.Common.{◌≡◌, ℕ, true, false, cond, not, List, [], ◌∷◌, filter, find, None, Some, refl, sym, ap, subst, ◌∙◌, arith}
+-- A definition that is placed is there; and one that is found is of its selector and classes.
+use Rattle.std.proofs.Common.{◌≡◌, ℕ, true, false, cond, List, [], ◌∷◌, find, Some, refl, sym, ap, ◌∙◌, arith}
 use Rattle.std.specs.List.{list_any}
-use Rattle.std.specs.Option.{option_map}
 use Rattle.std.proofs.lemmas.Bool.{false≢true}
-use Rattle.dt_definitions.specs.Program.{Definition, is_definition, is_definition_before, place_definition, body_of, key_of, is_key_before, is_same_key}
-use Rattle.dt_definitions.specs.Lawful.{AscendingDefinitions}
+use Rattle.dt_definitions.specs.Program.{Definition, is_definition, is_definition_before, place_definition, key_of, is_key_before, is_same_key}
 use Rattle.dt_definitions.specs.SelectorLists.{Definitions, HasRoomFor}
-use Rattle.dt_definitions.specs.Undo.{restore_definition}
 use Rattle.dt_definitions.proofs.DefinitionOrder.{key_order, is_definition-refl}
-use Rattle.dt_graph.proofs.InOrder.{found_key, placing-undone, removing-undone}
+use Rattle.dt_graph.proofs.InOrder.{found_key}
 
 -- a definition that is there needs no room
 pub has_room : (definitions : Definitions) (s : ℕ) (cs : List ℕ)
@@ -33,31 +30,10 @@ placed_there d (e ∷ ds) =
 -- ---- what was there comes back
 
 -- the one that is found is of this selector and these classes
-found_is : (s : ℕ) (cs : List ℕ) (ds : List Definition) (old : Definition) → find (is_definition s cs) ds ≡ Some old
+pub found_is : (s : ℕ) (cs : List ℕ) (ds : List Definition) (old : Definition) → find (is_definition s cs) ds ≡ Some old
     → old ≡ record { selector = s; classes = cs; body = old.body }
 found_is s cs ds old there =
     let e = found_key key_of is_key_before is_same_key key_order (record { selector = s; classes = cs }) ds old there in
     let a : old.selector ≡ s = ap (λ k. k.selector) e in
     let b : old.classes ≡ cs = ap (λ k. k.classes) e in
     rw (sym a, sym b) refl
-
-pub define_undone : (s : ℕ) (cs : List ℕ) (new : ℕ) (ds : List Definition) → AscendingDefinitions ds
-    → restore_definition (place_definition (record { selector = s; classes = cs; body = new }) ds) s cs (body_of ds s cs) ≡ ds
-define_undone s cs new ds u =
-    let d : Definition = record { selector = s; classes = cs; body = new } in
-    let undone = placing-undone key_of is_key_before is_same_key key_order d ds u in
-    elim (find (is_definition s cs) ds) as (λ o. find (is_definition s cs) ds ≡ o
-    → restore_definition (place_definition d ds) s cs (option_map (λ d. d.body) o) ≡ ds) [
-      | None ↦ λ none. rw none at undone
-      | (Some old) ↦ λ there. subst (λ o. place_definition o (place_definition d ds) ≡ ds) (found_is s cs ds old there) (rw there at undone)
-    ] refl
-
-pub undefine_undone : (s : ℕ) (cs : List ℕ) (ds : List Definition) → AscendingDefinitions ds
-    → restore_definition (filter (λ d. not (is_definition s cs d)) ds) s cs (body_of ds s cs) ≡ ds
-undefine_undone s cs ds u =
-    let undone = removing-undone key_of is_key_before is_same_key key_order (record { selector = s; classes = cs }) ds u in
-    elim (find (is_definition s cs) ds) as (λ o. find (is_definition s cs) ds ≡ o
-    → restore_definition (filter (λ d. not (is_definition s cs d)) ds) s cs (option_map (λ d. d.body) o) ≡ ds) [
-      | None ↦ λ none. rw none at undone
-      | (Some old) ↦ λ there. subst (λ o. place_definition o (filter (λ d. not (is_definition s cs d)) ds) ≡ ds) (found_is s cs ds old there) (rw there at undone)
-    ] refl

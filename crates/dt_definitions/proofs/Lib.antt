@@ -12,9 +12,8 @@ pub mod DefinitionChanges
 pub mod Steps
 pub mod LawfulSteps
 pub mod ProgramLaws
-pub mod SelectorUndo
 pub mod DefinitionUndo
-pub mod UndoSteps
+pub mod Inverses
 pub mod Undoing
 pub mod BatchLaws
 pub mod AnswerLaws

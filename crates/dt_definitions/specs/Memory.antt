@@ -1,5 +1,6 @@
 -- When an edit or a batch may end in want of memory.
 use Rattle.std.specs.Prelude.{Bool, true, false, ◌&&◌, not, is_none, List, [], ◌∷◌, Result, Ok, Err, IsTrue}
+use Rattle.std.specs.List.{list_any}
 use Rattle.dt_definitions.specs.Program.{Program}
 use Rattle.dt_definitions.specs.Step.{has_definition, refusal}
 use Rattle.dt_definitions.specs.declared.edit.Edit.{Edit}
@@ -21,11 +22,22 @@ may_want_memory p (Define selector classes body) =
     is_none (refusal p (Define selector classes body)) && not (has_definition p selector classes)
 may_want_memory p (Undefine selector classes) = false
 
--- whether the batch takes memory: none for no edit, as much as the edit for one, and room to undo them for more
+-- whether it takes memory to keep what undoes the edit: what a drop, a definition or its end leave doesn't tell it
+abbrev pub undoing_takes_memory : Edit → Bool
+undoing_takes_memory (AddClass class parents) = false
+undoing_takes_memory (DropClass class) = true
+undoing_takes_memory (Link class parent) = false
+undoing_takes_memory (Unlink class parent) = false
+undoing_takes_memory (AddSelector selector arity) = false
+undoing_takes_memory (DropSelector selector) = true
+undoing_takes_memory (Define selector classes body) = true
+undoing_takes_memory (Undefine selector classes) = true
+
+-- whether the batch takes memory: none for no edit, as much as the edit for one, and for more what undoes them
 abbrev pub batch_may_want_memory : Program → List Edit → Bool
 batch_may_want_memory p [] = false
 batch_may_want_memory p (edit ∷ []) = may_want_memory p edit
-batch_may_want_memory p (edit ∷ next ∷ edits) = true
+batch_may_want_memory p (edit ∷ next ∷ edits) = list_any undoing_takes_memory (edit ∷ next ∷ edits)
 
 -- the answer of an edit is want of memory only where this holds
 abbrev pub NoMemoryOnlyWhere : Bool → Result (Unit {0}) ApplyFault → Type 0

@@ -178,5 +178,8 @@ no_edit_takes_none = refl
 one_edit_takes_its_own : batch_may_want_memory program (edit.AddClass 9 [] ∷ []) ≡ false
 one_edit_takes_its_own = refl
 
-two_edits_may_be_undone : batch_may_want_memory program (edit.AddClass 9 [] ∷ edit.AddClass 10 [] ∷ []) ≡ true
-two_edits_may_be_undone = refl
+links_take_none : batch_may_want_memory program (edit.AddClass 9 [] ∷ edit.Link 9 3 ∷ edit.Unlink 2 1 ∷ []) ≡ false
+links_take_none = refl
+
+a_drop_is_kept : batch_may_want_memory program (edit.Link 3 2 ∷ edit.DropClass 3 ∷ []) ≡ true
+a_drop_is_kept = refl

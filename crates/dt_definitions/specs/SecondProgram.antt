@@ -2,7 +2,7 @@
 use Rattle.std.specs.Prelude.{◌≡◌, Ok, reverse}
 use Rattle.dt_definitions.specs.Program.{Program}
 use Rattle.dt_definitions.specs.Step.{step_batch}
-use Rattle.dt_definitions.specs.Undo.{LeadsBack}
+use Rattle.dt_definitions.specs.Undo.{undoing, LeadsBack}
 use Rattle.dt_definitions.specs.declared.two_programs.Second.{Second}
 use Rattle.dt_definitions.specs.declared.two_programs.Second.TheVariants.{Behind, Tried, Gone}
 
@@ -12,9 +12,9 @@ tried_or stands (Behind program batch) = stands
 tried_or stands (Tried program batch kept) = program
 tried_or stands Gone = stands
 
--- the second program is behind the one that stands by its batch, or before it by its batch, and what was kept leads back
+-- the second program is behind the one that stands by its batch, or before it by its batch, and undoing that leads back
 abbrev pub IsSecondOf : Program → Second → Type 0
 IsSecondOf stands (Behind program batch) = step_batch program batch ≡ Ok stands
 IsSecondOf stands (Tried program batch kept) =
-    (step_batch stands batch ≡ Ok program) × LeadsBack program (reverse kept.items) stands
+    (step_batch stands batch ≡ Ok program) × LeadsBack program (undoing (reverse batch) (reverse kept.items)) stands
 IsSecondOf stands Gone = Unit {0}

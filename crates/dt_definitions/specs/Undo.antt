@@ -1,79 +1,63 @@
--- How a batch is undone: what each edit may change is kept before it, and restored from the last edit's to the first's.
-use Rattle.std.specs.Prelude.{◌≡◌, ℕ, not, List, [], ◌∷◌, Option, None, Some, filter}
-use Rattle.dt_graph.specs.Graph.{is_live}
+-- How a batch is undone: each edit that was made is undone by one edit, from the last to the first.
+use Rattle.std.specs.Prelude.{◌≡◌, ℕ, if◌then◌else◌, List, [], ◌∷◌, ◌++◌, take, drop, Option, None, Some}
 use Rattle.dt_graph.specs.Parents.{parents_of}
-use Rattle.dt_graph.specs.Restore.{restore_effect}
-use Rattle.dt_selectors.specs.Selectors.{Selector, place_selector, without_selector}
-use Rattle.dt_definitions.specs.Program.{Definition, Program, arity_of, is_definition, place_definition, body_of}
+use Rattle.dt_definitions.specs.Program.{Program, empty_program, arity_of, body_of}
 use Rattle.dt_definitions.specs.SelectorLists.{Rooms, Definitions, HasRoomFor}
-use Rattle.dt_definitions.specs.Lawful.{Lawful}
-use Rattle.dt_definitions.specs.Step.{with_graph, with_selectors, with_definitions}
+use Rattle.dt_definitions.specs.Step.{refusal, effect}
+use Rattle.dt_definitions.specs.Memory.{undoing_takes_memory}
 use Rattle.dt_definitions.specs.declared.edit.Edit.{Edit}
 use Rattle.dt_definitions.specs.declared.edit.Edit.TheVariants.{AddClass, DropClass, Link, Unlink, AddSelector, DropSelector, Define, Undefine}
-use Rattle.dt_definitions.specs.declared.kept.Kept.{Kept}
-use Rattle.dt_definitions.specs.declared.kept.Kept.TheVariants as kept
 
--- the class as it is in the program, and likewise the selector and the definition
-abbrev pub class_in : Program → ℕ → Kept
-class_in p class = kept.Class class (is_live p.graph class) (record { items = parents_of p.graph.links class })
+-- the edit by which the selector has this arity again, or this body at these classes, or none
+abbrev pub arity_again : ℕ → Option ℕ → Edit
+arity_again selector None = DropSelector selector
+arity_again selector (Some arity) = AddSelector selector arity
 
-abbrev pub selector_in : Program → ℕ → Kept
-selector_in p selector = kept.Selector selector (arity_of p selector)
+abbrev pub body_again : ℕ → List ℕ → Option ℕ → Edit
+body_again selector classes None = Undefine selector classes
+body_again selector classes (Some body) = Define selector classes body
 
-abbrev pub definition_in : Program → ℕ → List ℕ → Kept
-definition_in p selector classes = kept.Definition selector classes (body_of p.definitions selector classes)
+-- the edit that undoes this one, made on the program
+abbrev pub inverse : Program → Edit → Edit
+inverse p (AddClass class parents) = DropClass class
+inverse p (DropClass class) = AddClass class (parents_of p.graph.links class)
+inverse p (Link class parent) = Unlink class parent
+inverse p (Unlink class parent) = Link class parent
+inverse p (AddSelector selector arity) = DropSelector selector
+inverse p (DropSelector selector) = arity_again selector (arity_of p selector)
+inverse p (Define selector classes body) = body_again selector classes (body_of p.definitions selector classes)
+inverse p (Undefine selector classes) = body_again selector classes (body_of p.definitions selector classes)
 
--- what the edit may change, as it is in the program
-abbrev pub kept_of : Program → Edit → Kept
-kept_of p (AddClass class parents) = class_in p class
-kept_of p (DropClass class) = class_in p class
-kept_of p (Link class parent) = class_in p class
-kept_of p (Unlink class parent) = class_in p class
-kept_of p (AddSelector selector arity) = selector_in p selector
-kept_of p (DropSelector selector) = selector_in p selector
-kept_of p (Define selector classes body) = definition_in p selector classes
-kept_of p (Undefine selector classes) = definition_in p selector classes
+-- what is kept to undo the edit: nothing where the edit tells it
+abbrev pub kept_of : Program → Edit → List Edit
+kept_of p edit = if undoing_takes_memory edit then inverse p edit ∷ [] else []
 
--- the selectors with this one as it was, and the definitions with this one as it was
-abbrev pub restore_selector : List Selector → ℕ → Option ℕ → List Selector
-restore_selector selectors selector None = without_selector selectors selector
-restore_selector selectors selector (Some arity) =
-    place_selector (record { number = selector; arity = arity }) (without_selector selectors selector)
+-- what undoes these edits, the last first: of an edit that tells it this, of others what was kept, the last first
+abbrev pub undoing : List Edit → List Edit → List Edit
+undoing [] kept = []
+undoing (edit ∷ earlier) kept =
+    if undoing_takes_memory edit
+    then take 1 kept ++ undoing earlier (drop 1 kept)
+    else inverse empty_program edit ∷ undoing earlier kept
 
-abbrev pub restore_definition : List Definition → ℕ → List ℕ → Option ℕ → List Definition
-restore_definition definitions selector classes None = filter (λ d. not (is_definition selector classes d)) definitions
-restore_definition definitions selector classes (Some body) =
-    place_definition (record { selector = selector; classes = classes; body = body }) definitions
+-- none of the edits, made in turn, is refused, and they lead to the old program
+abbrev pub LeadsBack : Program → List Edit → Program → Type 0
+LeadsBack p [] old = p ≡ old
+LeadsBack p (edit ∷ edits) old = (refusal p edit ≡ None) × LeadsBack (effect p edit) edits old
 
--- the program with what was kept in place of what it has there
-abbrev pub restored : Program → Kept → Program
-restored p (kept.Class class live parents) = with_graph p (restore_effect p.graph class live parents.items)
-restored p (kept.Selector selector arity) = with_selectors p (restore_selector p.selectors selector arity)
-restored p (kept.Definition selector classes body) =
-    with_definitions p (restore_definition p.definitions selector classes body)
+-- the definitions have room for the one that the edit makes or takes away
+abbrev pub HasRoom : Definitions → Edit → Type 0
+HasRoom definitions (AddClass class parents) = Unit {0}
+HasRoom definitions (DropClass class) = Unit {0}
+HasRoom definitions (Link class parent) = Unit {0}
+HasRoom definitions (Unlink class parent) = Unit {0}
+HasRoom definitions (AddSelector selector arity) = Unit {0}
+HasRoom definitions (DropSelector selector) = Unit {0}
+HasRoom definitions (Define selector classes body) = HasRoomFor definitions selector classes
+HasRoom definitions (Undefine selector classes) = HasRoomFor definitions selector classes
 
--- the definitions have room for what was kept
-abbrev pub HasRoom : Definitions → Kept → Type 0
-HasRoom definitions (kept.Class class live parents) = Unit {0}
-HasRoom definitions (kept.Selector selector arity) = Unit {0}
-HasRoom definitions (kept.Definition selector classes body) = HasRoomFor definitions selector classes
-
--- the program with all restored, what was kept last first
-abbrev pub undone : Program → List Kept → Program
-undone p [] = p
-undone p (last ∷ earlier) = undone (restored p last) earlier
-
--- each time that the last is restored the program is lawful
-abbrev pub StaysLawful : Program → List Kept → Type 0
-StaysLawful p [] = Unit {0}
-StaysLawful p (last ∷ earlier) = Lawful (restored p last) × StaysLawful (restored p last) earlier
-
--- each time that the last is restored the definitions, with this much room, have room for it
-abbrev pub HasRooms : Rooms → Program → List Kept → Type 0
+-- each time that an edit is made the definitions, with this much room, have room for it
+abbrev pub HasRooms : Rooms → Program → List Edit → Type 0
 HasRooms rooms p [] = Unit {0}
-HasRooms rooms p (last ∷ earlier) =
-    HasRoom (record { all = p.definitions; rooms = rooms }) last × HasRooms rooms (restored p last) earlier
-
--- all can be restored, and then the program is the old one
-abbrev pub LeadsBack : Program → List Kept → Program → Type 0
-LeadsBack new log old = StaysLawful new log × (undone new log ≡ old)
+HasRooms rooms p (edit ∷ edits) =
+    HasRoom (record { all = p.definitions; rooms = rooms }) edit × HasRooms rooms (effect p edit) edits

@@ -1,13 +1,13 @@
 ghost use Rattle.std.specs.Prelude.{◌≡◌, [], ◌∷◌, IfOk, IfErr, reverse};
+ghost use Rattle.std.specs.List.{list_any};
 ghost use Rattle.dt_definitions.specs.Parts.{program_of};
 ghost use Rattle.dt_definitions.specs.Lawful.{Lawful};
 ghost use Rattle.dt_definitions.specs.Step.{step_batch, AppliesBatch};
-ghost use Rattle.dt_definitions.specs.Undo.{LeadsBack};
-ghost use Rattle.dt_definitions.specs.Memory.{may_want_memory, batch_may_want_memory, BatchNoMemoryOnlyWhere};
+ghost use Rattle.dt_definitions.specs.Undo.{undoing, LeadsBack};
+ghost use Rattle.dt_definitions.specs.Memory.{may_want_memory, undoing_takes_memory, batch_may_want_memory, BatchNoMemoryOnlyWhere};
 
 use crate::batch::Batch;
 use crate::edit::Edit;
-use crate::kept::Kept;
 use crate::parts::Parts;
 use crate::why::BatchFault;
 
@@ -25,28 +25,26 @@ impl Parts {
         }
     }
 
-    // All edits in order, with what undoes them, or none where one is refused or memory is wanting.
-    pub(crate) fn apply_kept(&mut self, batch: &Batch) -> Result<Vec<Kept>, BatchFault>
+    // All edits in order, with what undoes them where they don't tell it, or none where one is refused or memory is
+    // wanting.
+    pub(crate) fn apply_kept(&mut self, batch: &Batch) -> Result<Vec<Edit>, BatchFault>
         requires { Lawful (program_of self.old) }
         ensures ok { IfOk result (λ kept. (step_batch (program_of self.old) batch.now ≡ Ok (program_of self.new))
-            × LeadsBack (program_of self.new) (reverse kept.items) (program_of self.old)) }
+            × LeadsBack (program_of self.new) (undoing (reverse batch.now) (reverse kept.items)) (program_of self.old)) }
         ensures err { IfErr result (λ fault. AppliesBatch (program_of self.old) batch.now (program_of self.new) (Err fault)) }
+        ensures memory { IfErr result (λ fault. BatchNoMemoryOnlyWhere (list_any undoing_takes_memory batch.now) (Err fault)) }
         ensures lawful { Lawful (program_of self.new) }
     {
-        // All the room that undoing needs is taken before the first edit.
         let edits = batch.as_slice();
-        let Ok(mut kept) = Vec::with_capacity(batch.allocator(), edits.len()) else {
-            return Err(BatchFault::NoMemory);
-        };
+        let mut kept = Vec::new(batch.allocator());
         for (index, edit) in edits.iter().enumerate() {
-            let before = self.kept(edit);
-            if let Err(fault) = self.apply(edit) {
-                if self.undo(kept).is_err() {
+            edit.law();
+            if let Err(fault) = self.apply_keeping(edit, &mut kept) {
+                if self.undo(&edits[..index], kept).is_err() {
                     unreachable!();
                 }
                 return Err(BatchFault::at(index as u32 + 1, fault));
             }
-            kept.push_reserved(before);
         }
         Ok(kept)
     }

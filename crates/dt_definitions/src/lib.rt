@@ -9,7 +9,6 @@ mod class_order;
 mod defined;
 mod definition_key;
 mod edit;
-mod kept;
 mod laws;
 mod limits;
 mod naming;

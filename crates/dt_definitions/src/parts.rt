@@ -1,7 +1,7 @@
 ghost use Rattle.std.specs.Prelude.{◌≡◌, false, OnOk};
 ghost use Rattle.dt_definitions.specs.Parts.{program_of};
 ghost use Rattle.dt_definitions.specs.Lawful.{Lawful};
-ghost use Rattle.dt_definitions.specs.Undo.{kept_of, restored, HasRoom};
+ghost use Rattle.dt_definitions.specs.Undo.{HasRoom};
 ghost use Rattle.dt_definitions.specs.SelectorLists.{HasRoomFor, RoomStays};
 ghost use Rattle.dt_definitions.specs.declared.edit.Edit.{Edit};
 ghost use Rattle.dt_definitions.specs.Step.{Applies};
@@ -30,12 +30,11 @@ impl Parts {
         ensures applies { Applies (program_of self.old) edit.now (program_of self.new) result }
         ensures memory { NoMemoryOnlyWhere (may_want_memory (program_of self.old) edit.now) result }
         ensures lawful { Lawful (program_of self.new) }
-        ensures undo { OnOk result (restored (program_of self.new) (kept_of (program_of self.old) edit.now) ≡ program_of self.old) }
-        ensures room { OnOk result (HasRoom self.new.definitions (kept_of (program_of self.old) edit.now)) }
+        ensures enough { HasRoom self.old.definitions edit.now → NoMemoryOnlyWhere false result }
+        ensures room { OnOk result (HasRoom self.new.definitions edit.now) }
         ensures room_stays { RoomStays self.old.definitions.rooms self.new.definitions.rooms }
     {
         steps_keep_law();
-        dt_graph::changes_are_undone();
         edit.law();
         self.perform(edit)
     }
@@ -44,7 +43,8 @@ impl Parts {
         requires { Lawful (program_of self.old) }
         ensures applies { Applies (program_of self.old) edit.now (program_of self.new) result }
         ensures memory { NoMemoryOnlyWhere (may_want_memory (program_of self.old) edit.now) result }
-        ensures room { OnOk result (HasRoom self.new.definitions (kept_of (program_of self.old) edit.now)) }
+        ensures enough { HasRoom self.old.definitions edit.now → NoMemoryOnlyWhere false result }
+        ensures room { OnOk result (HasRoom self.new.definitions edit.now) }
         ensures room_stays { RoomStays self.old.definitions.rooms self.new.definitions.rooms }
     {
         match edit {
@@ -121,6 +121,7 @@ impl Parts {
         requires { Lawful (program_of self.old) }
         ensures applies { Applies (program_of self.old) (Edit.Define selector classes body) (program_of self.new) result }
         ensures memory { NoMemoryOnlyWhere (may_want_memory (program_of self.old) (Edit.Define selector classes body)) result }
+        ensures enough { HasRoomFor self.old.definitions selector classes → NoMemoryOnlyWhere false result }
         ensures room { OnOk result (HasRoomFor self.new.definitions selector classes) }
         ensures room_stays { RoomStays self.old.definitions.rooms self.new.definitions.rooms }
     {

@@ -9,7 +9,7 @@ ghost use Rattle.dt_definitions.specs.Lawful.{Lawful};
 ghost use Rattle.dt_definitions.specs.SelectorLists.{with_selector};
 ghost use Rattle.dt_definitions.specs.Nth.{nth};
 ghost use Rattle.dt_definitions.specs.Step.{Applies, step_batch, AppliesBatch};
-ghost use Rattle.dt_definitions.specs.Undo.{LeadsBack, StaysLawful, undone};
+ghost use Rattle.dt_definitions.specs.Undo.{undoing, LeadsBack};
 ghost use Rattle.dt_definitions.specs.Memory.{may_want_memory, batch_may_want_memory, NoMemoryOnlyWhere, BatchNoMemoryOnlyWhere};
 
 use crate::all_definitions::AllDefinitions;
@@ -17,7 +17,6 @@ use crate::batch::Batch;
 use crate::defined::Defined;
 use crate::definition_key::DefinitionKey;
 use crate::edit::Edit;
-use crate::kept::Kept;
 use crate::laws::steps_keep_law;
 use crate::parts::Parts;
 use crate::tuple::Tuple;
@@ -183,9 +182,10 @@ impl Program {
     /// The program after all edits of the batch in order, or the first edit that is refused, by its place from 1 and
     /// its cause. After a refusal or want of memory the program is as it was.
     ///
-    /// It costs what its edits cost: where a later edit is refused, what the earlier ones changed is restored. The
-    /// room for that is taken before the first edit. A batch without edits takes no memory, and a batch of one edit
-    /// only what the edit takes by itself.
+    /// It costs what its edits cost: where a later edit is refused, the earlier ones are undone, each by one edit. A
+    /// batch without edits takes no memory, a batch of one edit only what the edit takes by itself, and a batch that only
+    /// adds classes and selectors, links and unlinks, none. With other edits among several it takes memory to keep what
+    /// they replace or take away.
     pub fn apply_batch(&mut self, batch: &Batch) -> Result<(), BatchFault>
         ensures applies { AppliesBatch self.old batch.now self.new result }
         ensures memory { BatchNoMemoryOnlyWhere (batch_may_want_memory self.old batch.now) result }
@@ -202,21 +202,21 @@ impl Program {
         self.parts.give_back_all(batch);
     }
 
-    // As [`Program::apply_batch`], with what undoes it.
-    pub(crate) fn apply_kept(&mut self, batch: &Batch) -> Result<Vec<Kept>, BatchFault>
+    // As [`Program::apply_batch`], with what undoes it where its edits don't tell it.
+    pub(crate) fn apply_kept(&mut self, batch: &Batch) -> Result<Vec<Edit>, BatchFault>
         ensures ok { IfOk result (λ kept. (step_batch self.old batch.now ≡ Ok self.new)
-            × LeadsBack self.new (reverse kept.items) self.old) }
+            × LeadsBack self.new (undoing (reverse batch.now) (reverse kept.items)) self.old) }
         ensures err { IfErr result (λ fault. AppliesBatch self.old batch.now self.new (Err fault)) }
     {
         self.parts.apply_kept(batch)
     }
 
-    // All that was kept is restored, the last first. It takes memory only where the rows of definitions have less room
-    // than they had.
-    pub(crate) fn undo(&mut self, kept: Vec<Kept>) -> Result<(), NoMemory>
-        requires { StaysLawful self.old (reverse kept.items) }
-        ensures { OnOk result (self.new ≡ undone self.old (reverse kept.items)) }
+    // Undoes the batch that was applied with what was kept. It takes memory only where the lists of definitions have
+    // less room than they had.
+    pub(crate) fn undo(&mut self, batch: &Batch, kept: Vec<Edit>) -> Result<(), NoMemory>
+        ensures { (old : Program) → LeadsBack self.old (undoing (reverse batch.now) (reverse kept.items)) old
+            → OnOk result (self.new ≡ old) }
     {
-        self.parts.undo(kept)
+        self.parts.undo(batch.as_slice(), kept)
     }
 }

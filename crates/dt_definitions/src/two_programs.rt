@@ -4,7 +4,7 @@ ghost use Rattle.dt_definitions.specs.Step.{AppliesBatch};
 ghost use Rattle.dt_definitions.specs.TwoPrograms.{IsSettledAt};
 
 use crate::batch::Batch;
-use crate::kept::Kept;
+use crate::edit::Edit;
 use crate::program::Program;
 use crate::why::BatchFault;
 use dt_graph::NoMemory;
@@ -20,11 +20,11 @@ enum Second {
         program: Program,
         batch: Batch,
     },
-    // It is before the one that stands, by this batch, which is tried; what was kept leads back.
+    // It is before the one that stands, by this batch, which is tried; with what was kept the batch is undone.
     Tried {
         program: Program,
         batch: Batch,
-        kept: Vec<Kept>,
+        kept: Vec<Edit>,
     },
     // There is none. A copy takes its place.
     Gone,
@@ -105,16 +105,17 @@ impl TwoPrograms {
     }
 
     /// Tries the batch on the second program, as [`Program::apply_batch`] does: it is the new program, or the first edit
-    /// that is refused. The old program stays. After a refusal or want of memory both are as they were.
+    /// that is refused. A batch that is still tried is refused first. The program that stands stays; after a refusal or
+    /// want of memory it is also the one that is tried.
     ///
     /// The second program is brought up with the batch that was last accepted first, so it costs what the two batches
-    /// cost, each on one program. Memory may be wanted for the definitions of both and for the room to undo them, and at
-    /// the first try for the second program.
+    /// cost, each on one program. Memory may be wanted for the definitions of both and to keep what undoes them; and for
+    /// the second program, at the first try, and after a refusal that found no room to undo its batch.
     pub fn try_batch(&mut self, batch: Batch) -> Result<(), BatchFault>
-        requires { IsSettledAt self.old.stands self.old }
         ensures applies { AppliesBatch self.old.stands batch self.new.tried result }
         ensures stays { self.new.stands ≡ self.old.stands }
     {
+        self.refuse();
         let Ok(mut program) = self.take_second() else {
             return Err(BatchFault::NoMemory);
         };
@@ -163,7 +164,7 @@ impl TwoPrograms {
                 batch,
                 kept,
             } => {
-                if program.undo(kept).is_ok() {
+                if program.undo(&batch, kept).is_ok() {
                     program.give_back(&batch);
                     self.second = Second::Behind {
                         program,

@@ -1,147 +1,152 @@
-ghost use Rattle.std.specs.Prelude.{◌≡◌, ◌≤◌, length, reverse, IsOk, OnOk, OnErr};
+ghost use Rattle.std.specs.Prelude.{◌≡◌, ◌∷◌, ◌++◌, List, reverse, None, Ok, option_to_list, IsTrue, IsOk, IfOk, OnOk, OnErr};
 ghost use Rattle.dt_definitions.specs.Parts.{program_of};
+ghost use Rattle.dt_definitions.specs.Program.{Program};
 ghost use Rattle.dt_definitions.specs.Lawful.{Lawful};
-ghost use Rattle.dt_definitions.specs.Undo.{class_in, selector_in, definition_in, kept_of, restore_selector, restore_definition, restored, undone, HasRoom, StaysLawful, HasRooms};
-ghost use Rattle.dt_definitions.specs.SelectorLists.{HasRoomFor, RoomStays};
+ghost use Rattle.dt_definitions.specs.Step.{refusal, step, Applies};
+ghost use Rattle.dt_definitions.specs.Memory.{undoing_takes_memory, NoMemoryOnlyWhere};
+ghost use Rattle.dt_definitions.specs.SelectorLists.{RoomStays};
+ghost use Rattle.dt_definitions.specs.Undo.{inverse, kept_of, undoing, LeadsBack, HasRoom, HasRooms};
+ghost use Rattle.dt_definitions.specs.declared.edit.Edit.{Edit};
 
-use crate::all_definitions::AllDefinitions;
 use crate::edit::Edit;
-use crate::kept::Kept;
-use crate::limits::DEFINITIONS;
+use crate::parents::Parents;
 use crate::parts::Parts;
 use crate::tuple::Tuple;
-use arrayvec::ArrayVec;
-use dt_graph::{ClassNo, NoMemory};
-use dt_selectors::{Arity, BodyNo, SelNo, Selectors};
+use crate::why::ApplyFault;
+use dt_graph::NoMemory;
+use dt_selectors::SelNo;
+use std::alloc::Global;
 
-// The selector has this arity again, or isn't live again.
-fn restore_selector(selectors: &mut Selectors, selector: SelNo, arity: Option<Arity>)
-    ensures { selectors.new ≡ restore_selector selectors.old selector arity }
+// What undoes the last edit that isn't undone: the edit tells it, or it was kept last.
+fn take_inverse(edit: &Edit, kept: &mut Vec<Edit>) -> Option<Edit>
+    ensures { (earlier : List Edit) → undoing (edit.now ∷ earlier) (reverse kept.old.items)
+        ≡ option_to_list result ++ undoing earlier (reverse kept.new.items) }
 {
-    let _ = selectors.drop_sel(selector);
-    if let Some(arity) = arity {
-        let _ = selectors.add(selector, arity);
-    }
-}
-
-// The selector has this body at these classes again, or isn't defined there again.
-fn restore_definition(
-    definitions: &mut AllDefinitions,
-    selector: SelNo,
-    classes: &Tuple,
-    body: Option<BodyNo>,
-) -> Result<(), NoMemory>
-    requires { length definitions.old.all ≤ DEFINITIONS }
-    ensures ok { OnOk result (definitions.new.all ≡ restore_definition definitions.old.all selector classes.now body) }
-    ensures err { OnErr result (definitions.new.all ≡ definitions.old.all) }
-    ensures succeeds { HasRoomFor definitions.old selector classes.now → IsOk result }
-    ensures room_stays { RoomStays definitions.old.rooms definitions.new.rooms }
-{
-    match body {
-        Some(body) => definitions.put(selector, *classes, body),
-        None => {
-            definitions.remove(selector, classes.classes());
-            Ok(())
-        }
+    match edit {
+        Edit::AddClass { class, .. } => Some(Edit::DropClass { class: *class }),
+        Edit::Link { class, parent } => Some(Edit::Unlink {
+            class: *class,
+            parent: *parent,
+        }),
+        Edit::Unlink { class, parent } => Some(Edit::Link {
+            class: *class,
+            parent: *parent,
+        }),
+        Edit::AddSelector { selector, .. } => Some(Edit::DropSelector {
+            selector: *selector,
+        }),
+        _ => kept.pop(),
     }
 }
 
 impl Parts {
-    // The class as it is.
-    fn class_kept(&self, class: ClassNo) -> Kept
-        ensures { result ≡ class_in (program_of self.now) class }
+    // The edit by which the selector has the arity that it has.
+    fn arity_again(&self, selector: SelNo) -> Edit
+        ensures { result ≡ inverse (program_of self.now) (Edit.DropSelector selector) }
     {
-        self.graph.law();
-        let Ok(parents) = ArrayVec::try_from(self.graph.parents(class)) else {
-            unreachable!();
-        };
-        Kept::Class {
-            class,
-            is_live: self.graph.is_live(class),
-            parents,
+        match self.selectors.arity(selector) {
+            Some(arity) => Edit::AddSelector { selector, arity },
+            None => Edit::DropSelector { selector },
         }
     }
 
-    fn selector_kept(&self, selector: SelNo) -> Kept
-        ensures { result ≡ selector_in (program_of self.now) selector }
+    // The edit by which the selector has the body that it has at these classes.
+    fn body_again(&self, selector: SelNo, classes: &Tuple) -> Edit
+        ensures { result ≡ inverse (program_of self.now) (Edit.Undefine selector classes.now) }
     {
-        Kept::Selector {
-            selector,
-            arity: self.selectors.arity(selector),
+        match self.definitions.body(selector, classes.classes()) {
+            Some(body) => Edit::Define {
+                selector,
+                classes: *classes,
+                body,
+            },
+            None => Edit::Undefine {
+                selector,
+                classes: *classes,
+            },
         }
     }
 
-    fn definition_kept(&self, selector: SelNo, classes: &Tuple) -> Kept
-        ensures { result ≡ definition_in (program_of self.now) selector classes.now }
-    {
-        Kept::Definition {
-            selector,
-            classes: *classes,
-            body: self.definitions.body(selector, classes.classes()),
-        }
-    }
-
-    // What the edit may change, as it is.
-    pub(crate) fn kept(&self, edit: &Edit) -> Kept
-        ensures { result ≡ kept_of (program_of self.now) edit.now }
+    // What undoes the edit, where the edit doesn't tell it.
+    fn kept(&self, alloc: Global, edit: &Edit) -> Result<Option<Edit>, NoMemory>
+        ensures ok { IfOk result (λ kept. option_to_list kept ≡ kept_of (program_of self.now) edit.now) }
+        ensures memory { OnErr result (IsTrue (undoing_takes_memory edit.now)) }
     {
         match edit {
-            Edit::AddClass { class, .. } => self.class_kept(*class),
-            Edit::DropClass { class } => self.class_kept(*class),
-            Edit::Link { class, .. } => self.class_kept(*class),
-            Edit::Unlink { class, .. } => self.class_kept(*class),
-            Edit::AddSelector { selector, .. } => self.selector_kept(*selector),
-            Edit::DropSelector { selector } => self.selector_kept(*selector),
+            Edit::DropClass { class } => {
+                let parents = Parents::new(alloc, self.graph.parents(*class))?;
+                Ok(Some(Edit::AddClass {
+                    class: *class,
+                    parents,
+                }))
+            }
+            Edit::DropSelector { selector } => Ok(Some(self.arity_again(*selector))),
             Edit::Define {
                 selector,
                 classes,
                 ..
-            } => self.definition_kept(*selector, classes),
-            Edit::Undefine { selector, classes } => self.definition_kept(*selector, classes),
+            } => Ok(Some(self.body_again(*selector, classes))),
+            Edit::Undefine { selector, classes } => Ok(Some(self.body_again(*selector, classes))),
+            _ => Ok(None),
         }
     }
 
-    // What was kept is in place of what is there. It succeeds where the definitions have room.
-    fn restore(&mut self, kept: &Kept) -> Result<(), NoMemory>
-        requires was_lawful { Lawful (program_of self.old) }
-        requires lawful { Lawful (restored (program_of self.old) kept.now) }
-        ensures ok { OnOk result (program_of self.new ≡ restored (program_of self.old) kept.now) }
-        ensures err { OnErr result (program_of self.new ≡ program_of self.old) }
-        ensures succeeds { HasRoom self.old.definitions kept.now → IsOk result }
+    // The edit, or the first cause for which it is refused; what undoes it is kept, where the edit doesn't tell it.
+    pub(crate) fn apply_keeping(
+        &mut self,
+        edit: &Edit,
+        kept: &mut Vec<Edit>,
+    ) -> Result<(), ApplyFault>
+        requires { Lawful (program_of self.old) }
+        ensures applies { Applies (program_of self.old) edit.now (program_of self.new) result }
+        ensures memory { NoMemoryOnlyWhere (undoing_takes_memory edit.now) result }
+        ensures lawful { Lawful (program_of self.new) }
+        ensures room { OnOk result (HasRoom self.new.definitions edit.now) }
+        ensures room_stays { RoomStays self.old.definitions.rooms self.new.definitions.rooms }
+        ensures kept { OnOk result (kept.new.items ≡ kept.old.items ++ kept_of (program_of self.old) edit.now) }
+        ensures stays { OnErr result (kept.new.items ≡ kept.old.items) }
+    {
+        let Some(inverse) = self.kept(*kept.allocator(), edit)? else {
+            return self.apply(edit);
+        };
+        if kept.reserve(1).is_err() {
+            return Err(ApplyFault::NoMemory);
+        }
+        self.apply(edit)?;
+        kept.push_reserved(inverse);
+        Ok(())
+    }
+
+    // The edit, which isn't refused. It succeeds where the definitions have room.
+    fn make(&mut self, edit: Edit) -> Result<(), NoMemory>
+        requires lawful { Lawful (program_of self.old) }
+        ensures ok { OnOk result (step (program_of self.old) edit ≡ Ok (program_of self.new)) }
+        ensures lawful { Lawful (program_of self.new) }
+        ensures succeeds { refusal (program_of self.old) edit ≡ None → HasRoom self.old.definitions edit → IsOk result }
         ensures room_stays { RoomStays self.old.definitions.rooms self.new.definitions.rooms }
     {
-        match kept {
-            Kept::Class {
-                class,
-                is_live,
-                parents,
-            } => {
-                self.graph.restore(*class, *is_live, parents.as_slice());
-                Ok(())
-            }
-            Kept::Selector { selector, arity } => {
-                restore_selector(&mut self.selectors, *selector, *arity);
-                Ok(())
-            }
-            Kept::Definition {
-                selector,
-                classes,
-                body,
-            } => restore_definition(&mut self.definitions, *selector, classes, *body),
+        match self.apply(&edit) {
+            Ok(()) => Ok(()),
+            Err(_) => Err(NoMemory),
         }
     }
 
-    // All that was kept is restored, the last first. It succeeds where the definitions have room; else the program may
-    // stand between.
-    pub(crate) fn undo(&mut self, mut kept: Vec<Kept>) -> Result<(), NoMemory>
-        requires was_lawful { Lawful (program_of self.old) }
-        requires lawful { StaysLawful (program_of self.old) (reverse kept.items) }
-        ensures ok { OnOk result (program_of self.new ≡ undone (program_of self.old) (reverse kept.items)) }
+    // Undoes these edits, the last first. It succeeds where the definitions have room; else the program may stand between.
+    pub(crate) fn undo(&mut self, edits: &[Edit], mut kept: Vec<Edit>) -> Result<(), NoMemory>
+        requires { Lawful (program_of self.old) }
+        ensures ok { (old : Program) → LeadsBack (program_of self.old) (undoing (reverse edits.now) (reverse kept.items)) old
+            → OnOk result (program_of self.new ≡ old) }
         ensures lawful { Lawful (program_of self.new) }
-        ensures succeeds { HasRooms self.old.definitions.rooms (program_of self.old) (reverse kept.items) → IsOk result }
+        ensures succeeds { (old : Program) → LeadsBack (program_of self.old) (undoing (reverse edits.now) (reverse kept.items)) old
+            → HasRooms self.old.definitions.rooms (program_of self.old) (undoing (reverse edits.now) (reverse kept.items))
+            → IsOk result }
     {
-        while let Some(last) = kept.pop() {
-            self.restore(&last)?;
+        let mut left = edits.len();
+        while left > 0 {
+            left -= 1;
+            if let Some(inverse) = take_inverse(&edits[left], &mut kept) {
+                self.make(inverse)?;
+            }
         }
         Ok(())
     }

@@ -1,8 +1,19 @@
 -- Lists in strict order stay so where an element is placed and where some are left out; and a change is undone.
-use Rattle.std.proofs.Common.{◌≡◌, Bool, true, false, cond, IsTrue, List, [], ◌∷◌, None, Some, All, filter, refl, sym, ap, subst, ◌∙◌}
+use Rattle.std.proofs.Common.{◌≡◌, Bool, true, false, cond, IsTrue, List, [], ◌∷◌, Option, None, Some, is_some, All, filter, find, refl, sym, ap, subst, ◌∙◌}
+use Rattle.std.specs.List.{list_any}
+use Rattle.std.proofs.Common.{arith}
 use Rattle.std.proofs.lemmas.Bool.{cond_both, false≢true}
 use Rattle.std.proofs.lemmas.List.Elements.{All-nil, All-cons, All-head, All-tail, All-weaker, All-filter}
 use Rattle.dt_graph.specs.InOrder.{StrictOrder, Ascends, place, find_at, without, restore}
+
+-- an element is found exactly where one passes the test
+pub is_some-find : {X : Type 0} (test : X → Bool) (xs : List X) → is_some (find test xs) ≡ list_any test xs
+is_some-find test [] = refl
+is_some-find test (x ∷ xs) = let r = is_some-find test xs in grind arith
+
+pub no_some : {X : Type 0} (o : Option X) → is_some o ≡ false → o ≡ None
+no_some None h = refl
+no_some (Some x) h = absurd (false≢true (sym h))
 
 module _ {X K : Type 0} (key : X → K) (before same : K → K → Bool) (order : StrictOrder before same) where
   abbrev BeforeAll : K → List X → Type 0

@@ -24,6 +24,7 @@ pub mod AncestryRows
 pub mod Effects
 pub mod ListsOfGraphs
 pub mod Needed
+pub mod Undone
 pub mod ListMembers
 pub mod BelowSets
 pub mod PlacedMembers

@@ -154,12 +154,12 @@ no_links_of class (l ∷ links) h =
       | false ↦ λ none. ap (λ ls. l ∷ ls) (no_links_of class links none)
     ] h
 
-back_live : (old : Graph) (class : ℕ) → LawfulGraph old → is_live old class ≡ true
+pub back_live : (old : Graph) (class : ℕ) → LawfulGraph old → is_live old class ≡ true
     → add_effect (drop_effect old class) class (parents_of old.links class) ≡ old
 back_live old class lawful live =
     rw (number_back class old.classes lawful.classes_ascend live, links_back class old.links lawful.links_ascend) refl
 
-back_gone : (old : Graph) (class : ℕ) → LawfulGraph old → is_live old class ≡ false → drop_effect old class ≡ old
+pub back_gone : (old : Graph) (class : ℕ) → LawfulGraph old → is_live old class ≡ false → drop_effect old class ≡ old
 back_gone old class lawful gone =
     rw (number_gone class old.classes gone, no_links_of class old.links (no_parents old class (joins_live old lawful) gone)) refl
 

@@ -1,15 +1,8 @@
 use Rattle.dt_definitions.specs.Parts.{program_of}
 use Rattle.dt_definitions.proofs.LawfulSteps.{answer-lawful}
-use Rattle.dt_definitions.proofs.UndoSteps.{answer-undone}
 use Rattle.dt_definitions.proofs.parts.Parts.apply.Goals as goal
 
 pub returns-clause-lawful : goal.returns-clause-lawful
 returns-clause-lawful c =
     answer-lawful c.steps_keep_law.ensures.step (program_of c.args.self.now) (program_of c.perform.new.self) c.args.edit.now
     c.perform.result c.requires c.law.ensures c.perform.ensures.applies
-
-pub returns-clause-undo : goal.returns-clause-undo
-returns-clause-undo c =
-    let graph = c.changes_are_undone.ensures in
-    answer-undone graph.add graph.drop graph.link graph.unlink graph.restore (program_of c.args.self.now) (program_of c.perform.new.self)
-    c.args.edit.now c.perform.result c.requires c.perform.ensures.applies

@@ -1,48 +1,50 @@
-use Rattle.std.proofs.Common.{◌≡◌, ◌+◌, length, reverse, sym, ap, subst, ◌∙◌, arith}
-use Rattle.std.proofs.lemmas.List.{length_push}
+use Rattle.std.proofs.Common.{◌≡◌, ◌+◌, ◌∷◌, reverse, take, sym, ap, subst, ◌∙◌, arith}
 use Rattle.dt_definitions.specs.Parts.{program_of}
-use Rattle.dt_definitions.specs.Lawful.{Lawful}
 use Rattle.dt_definitions.specs.Step.{step_batch}
-use Rattle.dt_definitions.specs.Undo.{StaysLawful, HasRooms, undone, restored, HasRoom}
-use Rattle.dt_definitions.proofs.Undoing.{reverse_push, rooms_more, rest_applied}
+use Rattle.dt_definitions.specs.Undo.{undoing, LeadsBack, HasRooms, inverse}
+use Rattle.dt_definitions.proofs.Undoing.{done_more, undoing_more, room_back, rooms_more, rest_applied}
+use Rattle.dt_definitions.proofs.Inverses.{step-undone}
 use Rattle.dt_definitions.proofs.AnswerLaws.{ok_alone_changes}
 use Rattle.dt_definitions.proofs.parts.Parts.apply_kept.Goals as goal
 
 pub loop-index-preserved : goal.loop-index-preserved
 loop-index-preserved c =
     let old = program_of c.loop-index.self in
-    let new = program_of c.apply.new.self in
-    let log = reverse c.loop-index.kept.items in
-    let before = c.kept-before.result in
-    let answer = c.in_default-apply.ensures in
-    let back = subst (λ k. restored new k ≡ old) (sym c.kept-before.ensures) answer.undo in
-    let room = subst (HasRoom c.apply.new.self.definitions) (sym c.kept-before.ensures) answer.room in
-    let longer = ap reverse c.push_reserved.ensures.items ∙ reverse_push c.loop-index.kept.items before in
+    let new = program_of c.apply_keeping.new.self in
+    let edit = c.index-edits-index.result in
+    let edits = c.as_slice-edits.result.now in
+    let log = undoing (reverse (take c.loop-index.index edits)) (reverse c.loop-index.kept.items) in
+    let answer = c.in_default.ensures in
+    let more : undoing (reverse (take (c.loop-index.index + 1) edits)) (reverse c.apply_keeping.new.kept.items) ≡ inverse old edit ∷ log =
+    ap (λ done. undoing done (reverse c.apply_keeping.new.kept.items)) (done_more edits c.loop-index.index edit (omega arith) c.index-edits-index.is)
+    ∙ ap (λ kept. undoing (edit ∷ reverse (take c.loop-index.index edits)) (reverse kept)) answer.kept
+    ∙ undoing_more old edit (reverse (take c.loop-index.index edits)) c.loop-index.kept.items in
+    let undone = step-undone old new edit c.loop-index.invariant.lawful c.law.ensures answer.applies in
     record {
-      rest = rest_applied c.as_slice-edits.result.now c.loop-index.index c.index-edits-index.result old new
-          (step_batch (program_of c.args.self.now) c.as_slice-edits.result.now)
+      rest = rest_applied edits c.loop-index.index edit old new (step_batch (program_of c.args.self.now) edits)
           (omega arith) c.index-edits-index.is answer.applies c.loop-index.invariant.rest;
-      lawful = c.apply.ensures.lawful;
-      stays = subst (StaysLawful new) (sym longer)
-          (subst Lawful (sym back) c.loop-index.invariant.lawful, subst (λ p. StaysLawful p log) (sym back) c.loop-index.invariant.stays);
-      rooms = subst (HasRooms c.apply.new.self.definitions.rooms new) (sym longer) (
-        room,
-        subst (λ p. HasRooms c.apply.new.self.definitions.rooms p log) (sym back)
-            (rooms_more log old c.loop-index.self.definitions.rooms c.apply.new.self.definitions.rooms answer.room_stays c.loop-index.invariant.rooms),
+      lawful = c.apply_keeping.ensures.lawful;
+      back = subst (λ l. LeadsBack new l (program_of c.args.self.now)) (sym more)
+          (undone.0, subst (λ p. LeadsBack p log (program_of c.args.self.now)) (sym undone.1) c.loop-index.invariant.back);
+      rooms = subst (HasRooms c.apply_keeping.new.self.definitions.rooms new) (sym more) (
+        room_back old c.apply_keeping.new.self.definitions edit answer.room,
+        subst (λ p. HasRooms c.apply_keeping.new.self.definitions.rooms p log) (sym undone.1)
+            (rooms_more log old c.loop-index.self.definitions.rooms c.apply_keeping.new.self.definitions.rooms c.apply_keeping.ensures.room_stays c.loop-index.invariant.rooms),
       );
-      back = ap (undone new) longer ∙ ap (λ p. undone p log) back ∙ c.loop-index.invariant.back;
-      so_many = ap length c.push_reserved.ensures.items
-          ∙ length_push c.loop-index.kept.items before ∙ ap (λ n. n + 1) c.loop-index.invariant.so_many;
-      room = omega (arith, c.loop-index.invariant.room, c.push_reserved.ensures.capacity);
     }
 
--- a refused edit changes nothing, so what was kept before it has room
+-- a refused edit changes nothing, so the earlier ones can be undone
 pub unreachable-requires : goal.unreachable-requires
 unreachable-requires c =
-    let log = reverse c.loop-index.kept.items in
-    let rooms = c.apply.new.self.definitions.rooms in
-    let same = ok_alone_changes (program_of c.loop-index.self) (program_of c.apply.new.self) c.index-edits-index.result c.in-Err.fault c.in-Err.ensures.applies in
-    let has = subst (λ p. HasRooms rooms p log) (sym same)
-    (rooms_more log (program_of c.loop-index.self) c.loop-index.self.definitions.rooms rooms c.in-Err.ensures.room_stays c.loop-index.invariant.rooms) in
-    let good = c.undo.ensures.succeeds has in
+    let log = undoing (reverse (take c.loop-index.index c.as_slice-edits.result.now)) (reverse c.apply_keeping.new.kept.items) in
+    let rooms = c.apply_keeping.new.self.definitions.rooms in
+    let p = program_of c.apply_keeping.new.self in
+    let old = program_of c.loop-index.self in
+    let first = program_of c.args.self.now in
+    let same = ok_alone_changes old p c.index-edits-index.result c.in-Err.fault c.in-Err.ensures.applies in
+    let kept = sym c.in-Err.ensures.stays in
+    let back = subst (λ k. LeadsBack old (undoing (reverse (take c.loop-index.index c.as_slice-edits.result.now)) (reverse k)) first) kept c.loop-index.invariant.back in
+    let room = subst (λ k. HasRooms c.loop-index.self.definitions.rooms old (undoing (reverse (take c.loop-index.index c.as_slice-edits.result.now)) (reverse k))) kept c.loop-index.invariant.rooms in
+    let more = rooms_more log old c.loop-index.self.definitions.rooms rooms c.in-Err.ensures.room_stays room in
+    let good = c.undo.ensures.succeeds first (subst (λ q. LeadsBack q log first) (sym same) back) (subst (λ q. HasRooms rooms q log) (sym same) more) in
     grind (arith, good)
