@@ -5,10 +5,9 @@ use Rattle.std.specs.Option.{option_map}
 use Rattle.std.proofs.lemmas.Bool.{false≢true, ne_eqb, lt-leb, not-false}
 use Rattle.std.proofs.lemmas.List.Elements.{All-head, All-tail}
 use Rattle.dt_graph.specs.Refusal.{cause_if, first_cause}
-use Rattle.dt_graph.specs.InOrder.{restore}
 use Rattle.dt_graph.specs.Graph.{has_number, is_live}
 use Rattle.dt_graph.specs.GraphChange.{add_cause, drop_cause, link_cause, unlink_cause}
-use Rattle.dt_graph.proofs.InOrder.{is_some-find, no_some, placing-undone, put_back_removed}
+use Rattle.dt_graph.proofs.InOrder.{is_some-find, no_some, remove_placed, put_back_replaced, put_back_removed}
 use Rattle.dt_graph.proofs.LawfulChanges.{may_be_added}
 use Rattle.dt_graph.proofs.Undone.{add_undone, drop_undone, link_undone, unlink_undone}
 use Rattle.dt_selectors.specs.Selectors.{Selector, arity_in, has_selector, place_selector, without_selector}
@@ -79,18 +78,16 @@ define_undone p s cs body lawful h = go (find (is_definition s cs) p.definitions
     there : list_any (is_definition s cs) (place_definition d p.definitions) ≡ true
     there = placed_there d p.definitions
 
-    undone : restore key_of is_key_before is_same_key (key_of d) (find (is_definition s cs) p.definitions) (place_definition d p.definitions) ≡ p.definitions
-    undone = placing-undone key_of is_key_before is_same_key key_order d p.definitions lawful.definitions_ascend
-
     go : (found : Option Definition) → find (is_definition s cs) p.definitions ≡ found
         → IsUndone (effect p (Define s cs body)) (body_again s cs (option_map (λ d. d.body) found)) p
     go None is = (
       other_last (place_causes p s cs) _ _ h (rw there refl),
-      ap (with_definitions p) (rw is at undone),
+      ap (with_definitions p) (remove_placed key_of is_key_before is_same_key key_order d p.definitions is),
     )
     go (Some old) is = (
       other_last (place_causes p s cs) _ _ h (rw (there, both (leb DEFINITIONS (length (place_definition d p.definitions)))) refl),
-      ap (with_definitions p) (subst (λ o. place_definition o (place_definition d p.definitions) ≡ p.definitions) (found_is s cs p.definitions old is) (rw is at undone)),
+      ap (with_definitions p) (subst (λ o. place_definition o (place_definition d p.definitions) ≡ p.definitions) (found_is s cs p.definitions old is)
+          (put_back_replaced key_of is_key_before is_same_key key_order d old p.definitions lawful.definitions_ascend is)),
     )
 
 undefine_undone : (p : Program) (s : ℕ) (cs : List ℕ) → Lawful p → None ≡ refusal p (Undefine s cs)
@@ -125,8 +122,7 @@ add_selector_undone p s a lawful absent =
     let new : Selector = record { number = s; arity = a } in
     let own : arity_in (place_selector new p.selectors) s ≡ Some a = adding p.selectors new s ∙ rw (eq-eqb s s refl) refl in
     let known : has_selector (place_selector new p.selectors) s ≡ true = ap is_some own in
-    let back = rw (no_some (arity_in p.selectors s) absent) at (adding_undone p.selectors new lawful.selectors.ascend) in
-    (rw (known, undefined p s lawful absent) refl, ap (with_selectors p) back)
+    (rw (known, undefined p s lawful absent) refl, ap (with_selectors p) (adding_undone p.selectors new (no_some (arity_in p.selectors s) absent)))
 
 drop_selector_undone : (p : Program) (s : ℕ) → Lawful p → None ≡ refusal p (DropSelector s)
     → IsUndone (effect p (DropSelector s)) (inverse p (DropSelector s)) p
@@ -142,7 +138,7 @@ drop_selector_undone p s lawful h = go (arity_in p.selectors s) refl
 
     go : (arity : Option ℕ) → arity_in p.selectors s ≡ arity → IsUndone (effect p (DropSelector s)) (arity_again s arity) p
     go None is = absurd (false≢true (ap is_some (sym is) ∙ there))
-    go (Some a) is = (rw gone refl, ap (with_selectors p) (rw is at (dropping_undone p.selectors s lawful.selectors.ascend)))
+    go (Some a) is = (rw gone refl, ap (with_selectors p) (dropping_undone p.selectors (record { number = s; arity = a }) lawful.selectors.ascend is))
 
 pub effect-undone : (p : Program) (edit : Edit) → Lawful p → IsInRange edit → None ≡ refusal p edit → IsUndone (effect p edit) (inverse p edit) p
 effect-undone p (AddClass class parents) l r h =

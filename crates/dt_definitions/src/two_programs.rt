@@ -153,8 +153,7 @@ impl TwoPrograms {
         }
     }
 
-    /// The old program stands on. It takes no memory: what the batch changed in the second program is restored, at the
-    /// cost of the batch.
+    /// The old program stands on. It takes no memory: the batch is undone in the second program, at its own cost.
     pub fn refuse(&mut self)
         ensures { IsSettledAt self.old.stands self.new }
     {

@@ -1,11 +1,10 @@
 -- Which classes are live and which links are there after a change: what the change is about, and what was there.
-use Rattle.std.proofs.Common.{◌≡◌, ◌==◌, ◌≢◌, ℕ, Bool, true, false, not, ◌&&◌, ◌||◌, IsTrue, List, [], ◌∷◌, filter, refl, sym, ap, subst, ◌∙◌, ⊎_elim, eqb-true, eq-eqb, ne_eqb, arith}
+use Rattle.std.proofs.Common.{◌≡◌, ◌==◌, ℕ, Bool, true, false, not, ◌&&◌, ◌||◌, IsTrue, List, [], ◌∷◌, filter, refl, sym, ap, subst, ◌∙◌, ⊎_elim, eqb-true, eq-eqb, arith}
 use Rattle.std.proofs.lemmas.Bool.{or_cases, or_left, or_right, and_parts, and_from, and_right, cond_both}
 use Rattle.dt_graph.specs.Graph.{Link, Graph, has_number, is_live, is_link, has_link, place_link, place_links}
 use Rattle.dt_graph.specs.GraphChange.{add_effect, drop_effect, link_effect, unlink_effect}
-use Rattle.dt_graph.specs.Restore.{restore_effect}
 use Rattle.dt_graph.proofs.LinkLists.{has_number-placed, has_link-placed, has_number-filter, has_number-kept, has_link-filter}
-use Rattle.dt_graph.proofs.AscendingSets.{same_truth, and_true}
+use Rattle.dt_graph.proofs.AscendingSets.{same_truth}
 
 -- ---- what is left of numbers and links
 
@@ -75,59 +74,5 @@ live_after_unlink g class parent other = refl
 pub links_after_unlink : (g : Graph) (class parent low high : ℕ) → has_link (unlink_effect g class parent).links low high ≡ (has_link g.links low high && not ((low == class) && (high == parent)))
 links_after_unlink g class parent low high = has_link-filtered (λ link. not (is_link class parent link)) g.links low high
 
--- ---- and what restoring a class leaves
-
 pub never_own : (class : ℕ) (t : Bool) → (t && not (class == class)) ≡ false
 never_own class t = and_right t (not (class == class)) (ap not (eq-eqb class class refl))
-
-or_false : (t : Bool) → (t || false) ≡ t
-or_false t = grind arith
-
-pub live_restored : (g : Graph) (class : ℕ) (live : Bool) (parents : List ℕ) → is_live (restore_effect g class live parents) class ≡ live
-live_restored g class true parents =
-    live_after_add (drop_effect g class) class parents class ∙ or_left (class == class) (is_live (drop_effect g class) class) (eq-eqb class class refl)
-live_restored g class false parents = live_after_drop g class class ∙ never_own class (is_live g class)
-
-pub others_live_restored : (g : Graph) (class other : ℕ) (live : Bool) (parents : List ℕ) → class ≢ other → is_live (restore_effect g class live parents) other ≡ is_live g other
-others_live_restored g class other live parents apart = go live
-  where
-    dropped : is_live (drop_effect g class) other ≡ is_live g other
-    dropped =
-        live_after_drop g class other
-        ∙ and_true (is_live g other) (not (other == class)) (ap not (ne_eqb other class (λ same. apart (sym same))))
-
-    go : (live : Bool) → is_live (restore_effect g class live parents) other ≡ is_live g other
-    go true =
-        live_after_add (drop_effect g class) class parents other
-        ∙ ap (λ t. t || is_live (drop_effect g class) other) (ne_eqb class other apart)
-        ∙ dropped
-    go false = dropped
-
-pub links_restored : (g : Graph) (class : ℕ) (live : Bool) (parents : List ℕ) (high : ℕ) → has_link (restore_effect g class live parents).links class high ≡ (live && has_number parents high)
-links_restored g class live parents high = go live
-  where
-    dropped : has_link (drop_effect g class).links class high ≡ false
-    dropped = links_after_drop g class class high ∙ never_own class (has_link g.links class high)
-
-    go : (live : Bool) → has_link (restore_effect g class live parents).links class high ≡ (live && has_number parents high)
-    go true =
-        links_after_add (drop_effect g class) class parents class high
-        ∙ ap (λ t. (t && has_number parents high) || has_link (drop_effect g class).links class high) (eq-eqb class class refl)
-        ∙ ap (λ t. has_number parents high || t) dropped
-        ∙ or_false (has_number parents high)
-    go false = dropped
-
-pub others_links_restored : (g : Graph) (class low high : ℕ) (live : Bool) (parents : List ℕ) → class ≢ low → has_link (restore_effect g class live parents).links low high ≡ has_link g.links low high
-others_links_restored g class low high live parents apart = go live
-  where
-    dropped : has_link (drop_effect g class).links low high ≡ has_link g.links low high
-    dropped =
-        links_after_drop g class low high
-        ∙ and_true (has_link g.links low high) (not (low == class)) (ap not (ne_eqb low class (λ same. apart (sym same))))
-
-    go : (live : Bool) → has_link (restore_effect g class live parents).links low high ≡ has_link g.links low high
-    go true =
-        links_after_add (drop_effect g class) class parents low high
-        ∙ ap (λ t. (t && has_number parents high) || has_link (drop_effect g class).links low high) (ne_eqb class low apart)
-        ∙ dropped
-    go false = dropped

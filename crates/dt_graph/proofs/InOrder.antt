@@ -4,7 +4,7 @@ use Rattle.std.specs.List.{list_any}
 use Rattle.std.proofs.Common.{arith}
 use Rattle.std.proofs.lemmas.Bool.{cond_both, false≢true}
 use Rattle.std.proofs.lemmas.List.Elements.{All-nil, All-cons, All-head, All-tail, All-weaker, All-filter}
-use Rattle.dt_graph.specs.InOrder.{StrictOrder, Ascends, place, find_at, without, restore}
+use Rattle.dt_graph.specs.InOrder.{StrictOrder, Ascends, place, find_at, without}
 
 -- an element is found exactly where one passes the test
 pub is_some-find : {X : Type 0} (test : X → Bool) (xs : List X) → is_some (find test xs) ≡ list_any test xs
@@ -142,7 +142,7 @@ module _ {X K : Type 0} (key : X → K) (before same : K → K → Bool) (order 
       let none = none_found k (x ∷ xs) (All-cons (λ y. IsTrue (before k (key y))) x xs b rest) in
       absurd cc
 
-  put_back_replaced : (d old : X) (xs : List X) → Ascends key before xs → find_at key same (key d) xs ≡ Some old
+  pub put_back_replaced : (d old : X) (xs : List X) → Ascends key before xs → find_at key same (key d) xs ≡ Some old
       → place key before same old (place key before same d xs) ≡ xs
   put_back_replaced d old [] u h = absurd cc
   put_back_replaced d old (x ∷ xs) u h =
@@ -179,20 +179,4 @@ module _ {X K : Type 0} (key : X → K) (before same : K → K → Bool) (order 
             ] refl in
             rw s (place_behind old x k (without key same k xs) e b s
             ∙ ap (λ ys. x ∷ ys) (put_back_removed k old xs (Ascends-tail x xs u) (rw s at h)))
-      ] refl
-
-  pub placing-undone : (d : X) (xs : List X) → Ascends key before xs
-      → restore key before same (key d) (find_at key same (key d) xs) (place key before same d xs) ≡ xs
-  placing-undone d xs u =
-      elim (find_at key same (key d) xs) as (λ o. find_at key same (key d) xs ≡ o → restore key before same (key d) o (place key before same d xs) ≡ xs) [
-        | None ↦ λ none. remove_placed d xs none
-        | (Some old) ↦ λ there. put_back_replaced d old xs u there
-      ] refl
-
-  pub removing-undone : (k : K) (xs : List X) → Ascends key before xs
-      → restore key before same k (find_at key same k xs) (without key same k xs) ≡ xs
-  removing-undone k xs u =
-      elim (find_at key same k xs) as (λ o. find_at key same k xs ≡ o → restore key before same k o (without key same k xs) ≡ xs) [
-        | None ↦ λ none. let stays = without_none k xs none in ap (without key same k) stays ∙ stays
-        | (Some old) ↦ λ there. put_back_removed k old xs u there
       ] refl

@@ -11,7 +11,6 @@ pub mod LawfulChanges
 pub mod Repeated
 pub mod GraphChanges
 pub mod Subclasses
-pub mod Restored
 pub mod BelowChanges
 pub mod Members
 pub mod DescendantLists

@@ -1,26 +1,141 @@
 -- Each change of a lawful graph is undone by one change, which isn't refused.
-use Rattle.std.proofs.Common.{◌≡◌, ◌==◌, ℕ, ◌<◌, ◌≤◌, Bool, true, false, ◌&&◌, IsTrue, nat_lt, List, [], ◌∷◌, length, find, Option, None, Some, is_some, refl, sym, ap, subst, ◌∙◌, eq-eqb, arith}
-use Rattle.std.proofs.lemmas.Bool.{and_from, or_left, or_right, false≢true}
+use Rattle.std.proofs.Common.{◌≡◌, ◌==◌, ℕ, ◌<◌, ◌≤◌, Bool, not, true, false, cond, ◌&&◌, IsTrue, nat_lt, List, [], ◌∷◌, length, filter, find, Option, None, Some, is_some, refl, sym, ap, subst, ◌∙◌, eqb, eq-eqb, arith}
+use Rattle.std.proofs.lemmas.Bool.{and_from, or_left, or_right, eqb-true, false≢true}
 use Rattle.std.proofs.lemmas.Bool.Decides.{nat_tests}
-use Rattle.dt_graph.specs.Graph.{Link, Graph, has_number, is_live, is_link, is_link_before, has_link, place_link}
+use Rattle.std.proofs.lemmas.List.Elements.{All-head, All-tail, All-filter}
+use Rattle.dt_graph.specs.InOrder.{find_at, without}
+use Rattle.dt_graph.specs.Graph.{Link, Graph, has_number, is_live, is_link, is_link_before, has_link, AscendingLinks, place_number, place_link, place_links}
 use Rattle.dt_graph.specs.Lawful.{AscendingNumbers, LawfulGraph}
 use Rattle.dt_graph.specs.Parents.{parents_of}
-use Rattle.dt_graph.specs.GraphChange.{add_cause, add_effect, drop_cause, drop_effect, link_cause, link_effect, unlink_cause, unlink_effect, first_repeated}
+use Rattle.dt_graph.specs.GraphChange.{add_effect, drop_effect, link_effect, unlink_effect, first_repeated}
+use Rattle.dt_graph.specs.Laws.{AddingIsUndone, DroppingIsUndone, LinkingIsUndone, UnlinkingIsUndone}
 use Rattle.dt_graph.specs.declared.limits.TheConstants.{CLASSES, PARENTS}
-use Rattle.dt_graph.proofs.InOrder.{is_some-find, no_some, found_key, remove_placed, put_back_removed, Ascends-tail}
-use Rattle.dt_graph.proofs.Ascending.{number_order, order_of_links, first_is_lowest}
+use Rattle.dt_graph.proofs.InOrder.{is_some-find, no_some, found_key, remove_placed, put_back_removed, place_first, Ascends-tail}
+use Rattle.dt_graph.proofs.Ascending.{number_order, order_of_links, first_is_lowest, LinkBelowAll, link_below_rest, links_tail}
 use Rattle.dt_graph.proofs.LinkLists.{each_number}
 use Rattle.dt_graph.proofs.ParentLists.{parent_count_listed}
 use Rattle.dt_graph.proofs.ListsOfGraphs.{parents_ascend}
-use Rattle.dt_graph.proofs.LawfulChanges.{may_be_added, may_be_linked, add_keeps, drop_keeps, link_keeps, unlink_keeps}
+use Rattle.dt_graph.proofs.LawfulChanges.{joins_live, no_parents, may_be_added, may_be_linked, add_keeps, drop_keeps, link_keeps, unlink_keeps}
 use Rattle.dt_graph.proofs.Effects.{live_after_add, live_after_drop, links_after_link, links_after_unlink, never_own}
 use Rattle.dt_graph.proofs.Needed.{add_refused, drop_refused, link_refused, unlink_refused}
-use Rattle.dt_graph.proofs.Restored.{add_touches, back_live, back_gone}
 
--- ---- a class
+-- ---- changes touch one class
 
-pub add_undone : (g : Graph) (class : ℕ) (parents : List ℕ) → LawfulGraph g → class < CLASSES → add_cause g class parents ≡ None
-    → (drop_cause (add_effect g class parents) class ≡ None) × (drop_effect (add_effect g class parents) class ≡ g)
+others_numbers : (class : ℕ) (numbers : List ℕ) → filter (λ c. not (eqb c class)) (place_number class numbers) ≡ filter (λ c. not (eqb c class)) numbers
+others_numbers class [] = rw (eq-eqb class class refl) refl
+others_numbers class (n ∷ numbers) =
+    let r = others_numbers class numbers in let e = eq-eqb class class refl in grind arith
+
+others_link : (class parent : ℕ) (links : List Link) → filter (λ (l : Link). not (eqb l.class class)) (place_link (record { class = class; parent = parent }) links) ≡ filter (λ (l : Link). not (eqb l.class class)) links
+others_link class parent [] = rw (eq-eqb class class refl) refl
+others_link class parent (l ∷ links) =
+    let r = others_link class parent links in let e = eq-eqb class class refl in grind arith
+
+others_links : (class : ℕ) (parents : List ℕ) (links : List Link) → filter (λ (l : Link). not (eqb l.class class)) (place_links class parents links) ≡ filter (λ (l : Link). not (eqb l.class class)) links
+others_links class [] links = refl
+others_links class (p ∷ parents) links =
+    others_links class parents (place_link (record { class = class; parent = p }) links) ∙ others_link class p links
+
+filter_twice : {X : Type 0} (p : X → Bool) (xs : List X) → filter p (filter p xs) ≡ filter p xs
+filter_twice p [] = refl
+filter_twice p (x ∷ xs) = let r = filter_twice p xs in grind arith
+
+others_unlinked : (class parent : ℕ) (links : List Link) → filter (λ (l : Link). not (eqb l.class class)) (filter (λ l. not (is_link class parent l)) links) ≡ filter (λ (l : Link). not (eqb l.class class)) links
+others_unlinked class parent [] = refl
+others_unlinked class parent (l ∷ links) = let r = others_unlinked class parent links in grind arith
+
+add_touches : (g : Graph) (class : ℕ) (parents : List ℕ) → drop_effect (add_effect g class parents) class ≡ drop_effect g class
+add_touches g class parents = rw (others_numbers class g.classes, others_links class parents g.links) refl
+
+pub drop_touches : (g : Graph) (class : ℕ) → drop_effect (drop_effect g class) class ≡ drop_effect g class
+drop_touches g class =
+    rw (filter_twice (λ c. not (eqb c class)) g.classes, filter_twice (λ (l : Link). not (eqb l.class class)) g.links) refl
+
+pub unlink_touches : (g : Graph) (class parent : ℕ) → drop_effect (unlink_effect g class parent) class ≡ drop_effect g class
+unlink_touches g class parent = rw (others_unlinked class parent g.links) refl
+
+-- ---- a class comes back
+
+others_said : (class : ℕ) (numbers : List ℕ) → filter (λ c. not (eqb c class)) numbers ≡ without (λ n. n) (λ a b. eqb a b) class numbers
+others_said class [] = refl
+others_said class (n ∷ numbers) = let r = others_said class numbers in grind (arith, nat_tests)
+
+found_itself : (class : ℕ) (numbers : List ℕ) → IsTrue (has_number numbers class) → find_at (λ n. n) (λ a b. eqb a b) class numbers ≡ Some class
+found_itself class [] h = cc
+found_itself class (n ∷ numbers) h = let r = found_itself class numbers in grind (arith, nat_tests)
+
+number_back : (class : ℕ) (numbers : List ℕ) → AscendingNumbers numbers → IsTrue (has_number numbers class)
+    → place_number class (filter (λ c. not (eqb c class)) numbers) ≡ numbers
+number_back class numbers u h =
+    ap (place_number class) (others_said class numbers)
+    ∙ put_back_removed (λ n. n) nat_lt (λ a b. eqb a b) number_order class class numbers u (found_itself class numbers h)
+
+number_gone : (class : ℕ) (numbers : List ℕ) → has_number numbers class ≡ false → filter (λ c. not (eqb c class)) numbers ≡ numbers
+number_gone class [] h = refl
+number_gone class (n ∷ numbers) h = let r = number_gone class numbers in grind arith
+
+-- the link stands before that of the class to each of these parents
+abbrev BelowParents : Link → ℕ → List ℕ → Type 0
+BelowParents l class [] = Unit {0}
+BelowParents l class (p ∷ parents) = IsTrue (is_link_before l (record { class = class; parent = p })) × BelowParents l class parents
+
+place_behind : (l : Link) (class : ℕ) (parents : List ℕ) (links : List Link) → BelowParents l class parents
+    → place_links class parents (l ∷ links) ≡ l ∷ place_links class parents links
+place_behind l class [] links h = refl
+place_behind l class (p ∷ parents) links h =
+    let new : Link = record { class = class; parent = p } in
+    let one : place_link new (l ∷ links) ≡ l ∷ place_link new links = (let b = h.0 in grind (arith, nat_tests)) in
+    ap (place_links class parents) one ∙ place_behind l class parents (place_link new links) h.1
+
+parents_behind : (l : Link) (class : ℕ) (links : List Link) → LinkBelowAll l links → BelowParents l class (parents_of links class)
+parents_behind l class [] h = tt
+parents_behind l class (m ∷ links) h =
+    let rest = parents_behind l class links (All-tail (λ k. IsTrue (is_link_before l k)) m links h) in
+    elim (eqb m.class class) as (λ t. eqb m.class class ≡ t → BelowParents l class (cond t (m.parent ∷ parents_of links class) (parents_of links class))) [
+      | true ↦ λ e. (let b = All-head (λ k. IsTrue (is_link_before l k)) m links h in let same = eqb-true m.class class e in grind (arith, nat_tests), rest)
+      | false ↦ λ e. rest
+    ] refl
+
+links_back : (class : ℕ) (links : List Link) → AscendingLinks links
+    → place_links class (parents_of links class) (filter (λ (l : Link). not (eqb l.class class)) links) ≡ links
+links_back class [] u = refl
+links_back class (l ∷ links) u =
+    let others = filter (λ (l : Link). not (eqb l.class class)) links in
+    let ps = parents_of links class in
+    let b = link_below_rest l links u in
+    let r = links_back class links (links_tail l links u) in
+    let behind = place_behind l class ps others (parents_behind l class links b) in
+    elim (eqb l.class class) as (λ t. eqb l.class class ≡ t
+    → place_links class (cond t (l.parent ∷ ps) ps) (cond (not t) (l ∷ others) others) ≡ l ∷ links) [
+      | true ↦ λ e.
+          let same = eqb-true l.class class e in
+          let own : place_link (record { class = class; parent = l.parent }) others ≡ l ∷ others =
+          subst (λ k. place_link (record { class = k; parent = l.parent }) others ≡ l ∷ others) same
+          (place_first (λ l. l) is_link_before (λ a b. is_link a.class a.parent b) order_of_links l others
+          (All-filter (λ (l : Link). not (eqb l.class class)) (λ k. IsTrue (is_link_before l k)) links b)) in
+          ap (place_links class ps) own ∙ behind ∙ ap (λ ls. l ∷ ls) r
+      | false ↦ λ e. behind ∙ ap (λ ls. l ∷ ls) r
+    ] refl
+
+no_links_of : (class : ℕ) (links : List Link) → parents_of links class ≡ [] → filter (λ (l : Link). not (eqb l.class class)) links ≡ links
+no_links_of class [] h = refl
+no_links_of class (l ∷ links) h =
+    elim (eqb l.class class) as (λ t. cond t (l.parent ∷ parents_of links class) (parents_of links class) ≡ []
+    → cond (not t) (l ∷ filter (λ (l : Link). not (eqb l.class class)) links) (filter (λ (l : Link). not (eqb l.class class)) links) ≡ l ∷ links) [
+      | true ↦ λ none. absurd cc
+      | false ↦ λ none. ap (λ ls. l ∷ ls) (no_links_of class links none)
+    ] h
+
+back_live : (old : Graph) (class : ℕ) → LawfulGraph old → is_live old class ≡ true
+    → add_effect (drop_effect old class) class (parents_of old.links class) ≡ old
+back_live old class lawful live =
+    rw (number_back class old.classes lawful.classes_ascend live, links_back class old.links lawful.links_ascend) refl
+
+back_gone : (old : Graph) (class : ℕ) → LawfulGraph old → is_live old class ≡ false → drop_effect old class ≡ old
+back_gone old class lawful gone =
+    rw (number_gone class old.classes gone, no_links_of class old.links (no_parents old class (joins_live old lawful) gone)) refl
+
+pub add_undone : AddingIsUndone
 add_undone g class parents lawful small none =
     let new = add_effect g class parents in
     let back = add_touches g class parents ∙ back_gone g class lawful (may_be_added g class parents none).new in
@@ -37,9 +152,7 @@ once earlier (x ∷ numbers) ascending none =
     let above = first_is_lowest x numbers ascending n listed in
     let other = none n (or_right (x == n) (has_number numbers n) listed) in grind (arith, nat_tests)))
 
-pub drop_undone : (g : Graph) (class : ℕ) → LawfulGraph g → drop_cause g class ≡ None
-    → (add_cause (drop_effect g class) class (parents_of g.links class) ≡ None)
-    × (add_effect (drop_effect g class) class (parents_of g.links class) ≡ g)
+pub drop_undone : DroppingIsUndone
 drop_undone g class lawful none =
     let parents = parents_of g.links class in
     let new = drop_effect g class in
@@ -60,8 +173,7 @@ never false = refl
 abbrev to : ℕ → ℕ → Link
 to class parent = record { class = class; parent = parent }
 
-pub link_undone : (g : Graph) (class parent : ℕ) → LawfulGraph g → link_cause g class parent ≡ None
-    → (unlink_cause (link_effect g class parent) class parent ≡ None) × (unlink_effect (link_effect g class parent) class parent ≡ g)
+pub link_undone : LinkingIsUndone
 link_undone g class parent lawful none =
     let linked = links_after_link g class parent class parent
     ∙ or_left ((class == class) && (parent == parent)) (has_link g.links class parent) (and_from (class == class) (parent == parent) (eq-eqb class class refl) (eq-eqb parent parent refl)) in
@@ -71,8 +183,7 @@ link_undone g class parent lawful none =
       ap (λ links. record { classes = g.classes; links = links }) gone,
     )
 
-pub unlink_undone : (g : Graph) (class parent : ℕ) → LawfulGraph g → unlink_cause g class parent ≡ None
-    → (link_cause (unlink_effect g class parent) class parent ≡ None) × (link_effect (unlink_effect g class parent) class parent ≡ g)
+pub unlink_undone : UnlinkingIsUndone
 unlink_undone g class parent lawful none =
     ((link_refused new class parent (unlink_keeps g class parent lawful)).1 (gone, subst LawfulGraph (sym back) lawful), back)
   where

@@ -4,7 +4,6 @@ use Rattle.dt_graph.specs.Graph.{Link, Graph, empty_graph, has_number, is_live, 
 use Rattle.dt_graph.specs.Parents.{parents_of}
 use Rattle.dt_graph.specs.Below.{Leads, IsBelow, HasNoCycle, is_below}
 use Rattle.dt_graph.specs.Lawful.{AscendingNumbers}
-use Rattle.dt_graph.specs.Restore.{restore_effect}
 use Rattle.dt_graph.specs.Descendants.{descendants}
 use Rattle.dt_graph.specs.GraphChange.{add_effect, drop_effect, link_effect, unlink_effect}
 
@@ -180,17 +179,3 @@ the_other_links_stay : unlink_effect diamond squircle circle ≡ record {
   links = to circle shape ∷ to square shape ∷ to squircle square ∷ [];
 }
 the_other_links_stay = refl
-
--- ---- what is restored
-
-the_link_that_was_taken_away : restore_effect (unlink_effect diamond squircle circle) squircle true (circle ∷ square ∷ []) ≡ diamond
-the_link_that_was_taken_away = refl
-
-the_class_that_was_added : restore_effect diamond squircle false [] ≡ drop_effect diamond squircle
-the_class_that_was_added = refl
-
-with_these_parents_alone : restore_effect diamond squircle true (shape ∷ []) ≡ record {
-  classes = shape ∷ circle ∷ square ∷ squircle ∷ [];
-  links = to circle shape ∷ to square shape ∷ to squircle shape ∷ [];
-}
-with_these_parents_alone = refl

@@ -1,5 +1,5 @@
 -- Lists in strict order of a key: each element stands before the next, so no key stands twice.
-use Rattle.std.specs.Prelude.{◌≡◌, Bool, false, not, IsTrue, if◌then◌else◌, List, [], ◌∷◌, Option, None, Some, filter, find}
+use Rattle.std.specs.Prelude.{◌≡◌, Bool, false, not, IsTrue, if◌then◌else◌, List, [], ◌∷◌, Option, filter, find}
 
 -- keys in strict order: of two that aren't equal exactly one stands before the other, and so along three
 pub record StrictOrder {K : Type 0} (before same : K → K → Bool) : Type 0 where
@@ -29,8 +29,3 @@ find_at key same k xs = find (λ x. same k (key x)) xs
 
 abbrev pub without : {X K : Type 0} → (X → K) → (K → K → Bool) → K → List X → List X
 without key same k xs = filter (λ x. not (same k (key x))) xs
-
--- the list with what was there at this key
-abbrev pub restore : {X K : Type 0} → (X → K) → (K → K → Bool) → (K → K → Bool) → K → Option X → List X → List X
-restore key before same k None xs = without key same k xs
-restore key before same k (Some old) xs = place key before same old xs

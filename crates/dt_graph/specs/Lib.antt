@@ -13,7 +13,6 @@ pub mod LinkChanges
 pub mod Laws
 pub mod Descendants
 pub mod GraphChange
-pub mod Restore
 -- worked examples, and graphs that aren't lawful
 pub mod Examples
 pub mod RefusalExamples

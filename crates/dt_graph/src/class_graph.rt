@@ -5,7 +5,6 @@ ghost use Rattle.dt_graph.specs.Parents.{parents_of};
 ghost use Rattle.dt_graph.specs.Below.{HasNoCycle, IsBelow, is_below};
 ghost use Rattle.dt_graph.specs.Descendants.{descendants};
 ghost use Rattle.dt_graph.specs.Lawful.{LawfulGraph};
-ghost use Rattle.dt_graph.specs.Restore.{restore_effect};
 ghost use Rattle.dt_graph.specs.declared.limits.TheConstants.{CLASSES, PARENTS};
 ghost use Rattle.dt_graph.specs.GraphChange.{add_cause, add_effect, drop_cause, drop_effect, link_cause, link_effect, unlink_cause, unlink_effect, lowest_subclass};
 
@@ -281,28 +280,6 @@ impl ClassGraph {
         }
         self.remove_link(class, parent);
         Ok(())
-    }
-
-    /// For undoing alone: the class is as it was before one change, live with these parents alone or not live.
-    ///
-    /// Who undoes a change kept [`is_live`](ClassGraph::is_live) and [`parents`](ClassGraph::parents) of its class before
-    /// it; every change touches one class and its links to parents. The last change is undone first, so that all other
-    /// classes are as they were then; the condition holds and the graph is the one before the change
-    /// ([`changes_are_undone`](crate::changes_are_undone)). No call tests the condition: for any other purpose take
-    /// [`add`](ClassGraph::add), [`drop_class`](ClassGraph::drop_class), [`link`](ClassGraph::link) and
-    /// [`unlink`](ClassGraph::unlink), which refuse.
-    ///
-    /// It never wants memory. It costs what the change costs that it undoes, and where that was an unlink, up to one step
-    /// for each class at or below this one and each class that it is below again.
-    #[doc(hidden)]
-    pub fn restore(&mut self, class: ClassNo, is_live: bool, parents: &[ClassNo])
-        requires few { length parents.now ≤ PARENTS }
-        requires lawful { LawfulGraph (restore_effect self.old class is_live parents.now) }
-        ensures { self.new ≡ restore_effect self.old class is_live parents.now }
-    {
-        self.rows.law();
-        self.rows.restore(class, is_live, parents);
-        renew(&self.rows, &mut self.ancestry, class);
     }
 
     // The class is live from now on, with these parents.

@@ -4,7 +4,6 @@ ghost use Rattle.dt_graph.specs.Parents.{parents_of};
 ghost use Rattle.dt_graph.specs.Below.{HasNoCycle, is_below};
 ghost use Rattle.dt_graph.specs.Lawful.{LawfulGraph};
 ghost use Rattle.dt_graph.specs.GraphRows.{place_numbers};
-ghost use Rattle.dt_graph.specs.Restore.{restore_effect};
 ghost use Rattle.dt_graph.specs.declared.limits.TheConstants.{PARENTS};
 ghost use Rattle.dt_graph.specs.GraphChange.{add_cause, add_effect, drop_cause, drop_effect, link_cause, link_effect, unlink_effect};
 
@@ -33,21 +32,6 @@ impl Row {
             is_live: false,
             parents: Parents::new(),
         }
-    }
-
-    // The row of a class that is live with these parents, or of one that isn't.
-    fn restored(is_live: bool, parents: &[ClassNo]) -> Row
-        requires { length parents.now ≤ PARENTS }
-        ensures live { result.is_live ≡ is_live }
-        ensures parents { result.parents.items ≡ (if is_live then place_numbers parents.now [] else []) }
-    {
-        if is_live {
-            return Row {
-                is_live,
-                parents: in_order(parents),
-            };
-        }
-        Row::empty()
     }
 }
 
@@ -116,15 +100,6 @@ impl ClassRows {
             → IsTrue (is_below self.now.links b a) → a ≡ b }
     {
         let _ = &self.rows;
-    }
-
-    // The class is as it was before a change: live with these parents alone, or not live.
-    pub(crate) fn restore(&mut self, class: ClassNo, is_live: bool, parents: &[ClassNo])
-        requires few { length parents.now ≤ PARENTS }
-        requires lawful { LawfulGraph (restore_effect self.old class is_live parents.now) }
-        ensures { self.new ≡ restore_effect self.old class is_live parents.now }
-    {
-        self.rows[class.number() as usize] = Row::restored(is_live, parents);
     }
 
     // The class is live from now on, with these parents.

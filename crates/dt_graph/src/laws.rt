@@ -1,11 +1,9 @@
 ghost use Rattle.std.specs.Prelude.{◌≡◌, ◌==◌, ◌≢◌, ◌↔◌, ℕ, ◌<◌, ◌≤◌, Bool, not, false, ◌&&◌, ◌||◌, IsTrue, List, [], length, None};
 ghost use Rattle.dt_graph.specs.declared.limits.TheConstants.{CLASSES, PARENTS};
 ghost use Rattle.dt_graph.specs.Graph.{Graph, empty_graph, has_number, is_live, has_link};
-ghost use Rattle.dt_graph.specs.Parents.{parents_of};
-ghost use Rattle.dt_graph.specs.Restore.{restore_effect};
 ghost use Rattle.dt_graph.specs.Lawful.{LawfulGraph};
 ghost use Rattle.dt_graph.specs.GraphChange.{add_cause, add_effect, drop_cause, drop_effect, link_cause, link_effect, unlink_cause, unlink_effect, first_repeated};
-ghost use Rattle.dt_graph.specs.Laws.{BelowIsAmongLive, BelowIsAntisymmetric, LinksJoinLive, OthersStayBelow, SameAreBelowEdited};
+ghost use Rattle.dt_graph.specs.Laws.{AddingIsUndone, DroppingIsUndone, LinkingIsUndone, UnlinkingIsUndone, BelowIsAmongLive, BelowIsAntisymmetric, LinksJoinLive, OthersStayBelow, SameAreBelowEdited};
 
 use crate::class_graph::ClassGraph;
 use crate::class_set::ClassSet;
@@ -64,31 +62,14 @@ pub fn what_changes_leave()
         ≡ (has_link graph.links low high && not ((low == class) && (high == parent))) }
 {}
 
-/// Which classes are live and which links are there after a class is restored: of that class what is restored, and of
-/// all others what was there before. It does nothing: a caller whose reasoning needs this calls it.
-pub fn what_restoring_leaves()
-    ensures live { (graph : Graph) (class : ℕ) (live : Bool) (parents : List ℕ)
-        → is_live (restore_effect graph class live parents) class ≡ live }
-    ensures links { (graph : Graph) (class : ℕ) (live : Bool) (parents : List ℕ) (high : ℕ)
-        → has_link (restore_effect graph class live parents).links class high ≡ (live && has_number parents high) }
-    ensures others_live { (graph : Graph) (class other : ℕ) (live : Bool) (parents : List ℕ) → class ≢ other
-        → is_live (restore_effect graph class live parents) other ≡ is_live graph other }
-    ensures others_links { (graph : Graph) (class low high : ℕ) (live : Bool) (parents : List ℕ) → class ≢ low
-        → has_link (restore_effect graph class live parents).links low high ≡ has_link graph.links low high }
-{}
-
-/// A change touches one class and its links to parents, and a lawful graph comes back when that class is as it was
-/// before. It does nothing: a caller whose reasoning needs this calls it.
+/// Each change of a lawful graph is undone by one change, which isn't refused: an addition by a drop, a drop by the
+/// addition with the same parents, a link by an unlink, and an unlink by a link. It does nothing: a caller whose reasoning
+/// needs this calls it.
 pub fn changes_are_undone()
-    ensures add { (graph : Graph) (class : ℕ) (parents : List ℕ)
-        → drop_effect (add_effect graph class parents) class ≡ drop_effect graph class }
-    ensures drop { (graph : Graph) (class : ℕ) → drop_effect (drop_effect graph class) class ≡ drop_effect graph class }
-    ensures link { (graph : Graph) (class parent : ℕ)
-        → drop_effect (link_effect graph class parent) class ≡ drop_effect graph class }
-    ensures unlink { (graph : Graph) (class parent : ℕ)
-        → drop_effect (unlink_effect graph class parent) class ≡ drop_effect graph class }
-    ensures restore { (old new : Graph) (class : ℕ) → LawfulGraph old → drop_effect new class ≡ drop_effect old class
-        → restore_effect new class (is_live old class) (parents_of old.links class) ≡ old }
+    ensures add { AddingIsUndone }
+    ensures drop { DroppingIsUndone }
+    ensures link { LinkingIsUndone }
+    ensures unlink { UnlinkingIsUndone }
 {}
 
 // Types whose values threads may hand on and share.

@@ -27,7 +27,7 @@ pub use class_set::ClassSet;
 pub use graph_fault::GraphFault;
 pub use laws::{
     changes_are_undone, changes_keep_law, graphs_are_shared, law_of_below, others_stay_below,
-    refusals_are_needed, what_changes_leave, what_restoring_leaves,
+    refusals_are_needed, what_changes_leave,
 };
 pub use limits::{CLASSES, PARENTS};
 pub use listed::lists_agree;

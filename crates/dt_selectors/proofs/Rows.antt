@@ -4,7 +4,7 @@ use Rattle.std.proofs.lemmas.Bool.Decides.{nat_tests}
 use Rattle.std.proofs.lemmas.List.Elements.{All-nil, All-cons, All-head, All-tail}
 use Rattle.std.proofs.lemmas.Option.{slice_get_read}
 use Rattle.std.specs.Option.{option_flatten}
-use Rattle.dt_selectors.specs.Selectors.{Selector, arity_in, place_selector, without_selector, restore_selector}
+use Rattle.dt_selectors.specs.Selectors.{Selector, arity_in, place_selector, without_selector}
 use Rattle.dt_selectors.specs.Lawful.{AscendingSelectors, LawfulSelector, LawfulSelectors}
 use Rattle.dt_selectors.specs.Rows.{selectors_from, AritiesInRange}
 use Rattle.dt_selectors.specs.declared.limits.TheConstants.{SELECTORS}
@@ -85,10 +85,6 @@ pub without-row : (rows : List (Option ℕ)) (i : ℕ) → without_selector (sel
 without-row rows i = without-at i 0 i rows (omega arith)
 
 -- rows with no arity have no selector
-pub restored-row : (rows : List (Option ℕ)) (i : ℕ) (row : Option ℕ) → i < length rows → restore_selector (selectors_from 0 rows) i row ≡ selectors_from 0 (set rows i row)
-restored-row rows i None inside = without-row rows i
-restored-row rows i (Some a) inside = place-row rows i a inside
-
 pub selectors_from-replicate : (number n : ℕ) → selectors_from number (replicate n None) ≡ []
 selectors_from-replicate number zero = refl
 selectors_from-replicate number (suc n) = selectors_from-replicate (number + 1) n

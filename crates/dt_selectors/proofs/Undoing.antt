@@ -1,31 +1,27 @@
 -- A selector as it was before it came or went.
-use Rattle.std.proofs.Common.{◌≡◌, ℕ, List, Option, None, Some, eqb, nat_lt, refl, sym, ap, ◌∙◌}
-use Rattle.std.specs.Option.{option_map}
-use Rattle.dt_graph.specs.InOrder.{find_at, restore}
-use Rattle.dt_graph.proofs.InOrder.{found_key, placing-undone, removing-undone}
-use Rattle.dt_selectors.specs.Selectors.{Selector, arity_in, place_selector, without_selector, restore_selector}
+use Rattle.std.proofs.Common.{◌≡◌, eqb, nat_lt, Option, None, Some, find, option_map, refl, sym, subst}
+use Rattle.dt_graph.proofs.InOrder.{found_key, remove_placed, put_back_removed}
+use Rattle.dt_selectors.specs.Selectors.{Selector, place_selector, without_selector}
 use Rattle.dt_selectors.specs.Laws.{AddingIsUndone, DroppingIsUndone}
 use Rattle.dt_selectors.proofs.LawfulChanges.{selector_order}
 
--- to restore an arity is to restore the selector that was found
-as_found : (selectors others : List Selector) (number : ℕ)
-    → restore_selector others number (arity_in selectors number)
-    ≡ restore (λ (s : Selector). s.number) nat_lt (λ a b. eqb b a) number (find_at (λ (s : Selector). s.number) (λ a b. eqb b a) number selectors) others
-as_found selectors others number = go (find_at (λ (s : Selector). s.number) (λ a b. eqb b a) number selectors) refl
-  where
-    go : (found : Option Selector) → find_at (λ (s : Selector). s.number) (λ a b. eqb b a) number selectors ≡ found
-        → restore_selector others number (option_map (λ (s : Selector). s.arity) found) ≡ restore (λ (s : Selector). s.number) nat_lt (λ a b. eqb b a) number found others
-    go None is = refl
-    go (Some s) is =
-        let key = found_key (λ (s : Selector). s.number) nat_lt (λ a b. eqb b a) selector_order number selectors s is in
-        ap (λ n. place_selector (record { number = n; arity = s.arity }) others) (sym key)
-
 pub adding_undone : AddingIsUndone
-adding_undone selectors added ascend =
-    as_found selectors (place_selector added selectors) added.number
-    ∙ placing-undone (λ (s : Selector). s.number) nat_lt (λ a b. eqb b a) selector_order added selectors ascend
+adding_undone selectors added = go (find (λ s. eqb s.number added.number) selectors) refl
+  where
+    go : (found : Option Selector) → find (λ s. eqb s.number added.number) selectors ≡ found → option_map (λ (s : Selector). s.arity) found ≡ None
+        → without_selector (place_selector added selectors) added.number ≡ selectors
+    go None is none = remove_placed (λ (s : Selector). s.number) nat_lt (λ a b. eqb b a) selector_order added selectors is
+    go (Some s) is none = absurd cc
 
 pub dropping_undone : DroppingIsUndone
-dropping_undone selectors dropped ascend =
-    as_found selectors (without_selector selectors dropped) dropped
-    ∙ removing-undone (λ (s : Selector). s.number) nat_lt (λ a b. eqb b a) selector_order dropped selectors ascend
+dropping_undone selectors dropped ascend = go (find (λ s. eqb s.number dropped.number) selectors) refl
+  where
+    go : (found : Option Selector) → find (λ s. eqb s.number dropped.number) selectors ≡ found → option_map (λ (s : Selector). s.arity) found ≡ Some dropped.arity
+        → place_selector dropped (without_selector selectors dropped.number) ≡ selectors
+    go None is same = absurd cc
+    go (Some s) is same =
+        let number = found_key (λ (s : Selector). s.number) nat_lt (λ a b. eqb b a) selector_order dropped.number selectors s is in
+        let arity : s.arity ≡ dropped.arity = cc in
+        let one : s ≡ dropped = rw (sym number, sym arity) refl in
+        subst (λ t. place_selector t (without_selector selectors dropped.number) ≡ selectors) one
+        (put_back_removed (λ (s : Selector). s.number) nat_lt (λ a b. eqb b a) selector_order dropped.number s selectors ascend is)

@@ -2,7 +2,7 @@
 use Rattle.std.specs.Prelude.{◌≡◌, ◌==◌, ℕ, if◌then◌else◌, List, [], ◌∷◌, ◌++◌, length, None, Some}
 use Rattle.dt_selectors.specs.Names.{Names, place_of, with_name}
 use Rattle.dt_selectors.specs.Lawful.{AscendingSelectors}
-use Rattle.dt_selectors.specs.Selectors.{Selector, arity_in, place_selector, without_selector, restore_selector}
+use Rattle.dt_selectors.specs.Selectors.{Selector, arity_in, place_selector, without_selector}
 
 -- a name that has a number keeps it when a name is added
 abbrev pub NumbersStay : Type 0
@@ -32,11 +32,12 @@ DroppingUnsetsOneArity = (selectors : List Selector) (dropped selector : ℕ) �
     arity_in (without_selector selectors dropped) selector
     ≡ (if dropped == selector then None else arity_in selectors selector)
 
--- a selector that is as it was before one was placed, or taken away, leaves the selectors as they were
+-- a selector that was added is undone by dropping it, and one that was dropped by adding it with its arity
 abbrev pub AddingIsUndone : Type 0
-AddingIsUndone = (selectors : List Selector) (added : Selector) → AscendingSelectors selectors
-    → restore_selector (place_selector added selectors) added.number (arity_in selectors added.number) ≡ selectors
+AddingIsUndone = (selectors : List Selector) (added : Selector) → arity_in selectors added.number ≡ None
+    → without_selector (place_selector added selectors) added.number ≡ selectors
 
 abbrev pub DroppingIsUndone : Type 0
-DroppingIsUndone = (selectors : List Selector) (dropped : ℕ) → AscendingSelectors selectors
-    → restore_selector (without_selector selectors dropped) dropped (arity_in selectors dropped) ≡ selectors
+DroppingIsUndone = (selectors : List Selector) (dropped : Selector) → AscendingSelectors selectors
+    → arity_in selectors dropped.number ≡ Some dropped.arity
+    → place_selector dropped (without_selector selectors dropped.number) ≡ selectors

@@ -1,5 +1,5 @@
 -- The live selectors, each with how many arguments it takes.
-use Rattle.std.specs.Prelude.{◌==◌, ℕ, Bool, not, nat_lt, List, Option, None, Some, is_some, find, filter}
+use Rattle.std.specs.Prelude.{◌==◌, ℕ, Bool, not, nat_lt, List, Option, is_some, find, filter}
 use Rattle.std.specs.Option.{option_map}
 use Rattle.dt_graph.specs.InOrder.{place}
 use Rattle.dt_graph.specs.Refusal.{cause_if}
@@ -26,11 +26,6 @@ place_selector selector selectors = place (λ s. s.number) nat_lt (λ a b. b == 
 -- the selectors without this one
 abbrev pub without_selector : List Selector → ℕ → List Selector
 without_selector selectors selector = filter (λ s. not (s.number == selector)) selectors
-
--- the selectors with this one as it was: live with this arity, or not live
-abbrev pub restore_selector : List Selector → ℕ → Option ℕ → List Selector
-restore_selector selectors selector None = without_selector selectors selector
-restore_selector selectors selector (Some arity) = place_selector (record { number = selector; arity = arity }) selectors
 
 -- why a selector isn't added, and why it isn't dropped
 abbrev pub add_cause : List Selector → ℕ → Option SelectorFault

@@ -24,8 +24,8 @@ pub fn changes_touch_one_selector()
     ensures drop { DroppingUnsetsOneArity }
 {}
 
-/// A selector that comes or goes is undone by restoring its arity. It does nothing: a caller whose reasoning needs this
-/// calls it.
+/// A selector that comes is undone by dropping it, and one that goes by adding it with its arity. It does nothing: a
+/// caller whose reasoning needs this calls it.
 pub fn changes_are_undone()
     ensures add { AddingIsUndone }
     ensures drop { DroppingIsUndone }

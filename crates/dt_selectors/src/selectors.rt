@@ -1,6 +1,6 @@
 ghost use Rattle.std.specs.Prelude.{◌≡◌, ◌==◌, ℕ, ◌<◌, ◌≤◌, [], map, count_by, Some, IfSome, IfOk, OnOk, OnErr};
 ghost use Rattle.dt_graph.specs.Refusal.{ok_unless};
-ghost use Rattle.dt_selectors.specs.Selectors.{arity_in, has_selector, place_selector, without_selector, restore_selector, add_cause, drop_cause};
+ghost use Rattle.dt_selectors.specs.Selectors.{arity_in, has_selector, place_selector, without_selector, add_cause, drop_cause};
 ghost use Rattle.dt_selectors.specs.Lawful.{LawfulSelectors};
 
 use crate::limits::SELECTORS;
@@ -44,16 +44,6 @@ impl Model for Selectors {
     ghost view = { λ s. selectors_from 0 s.rows.items };
 
     ghost invariant = { λ s. (length s.rows.items ≡ SELECTORS) × AritiesInRange s.rows.items };
-}
-
-// The arity itself. Its range is known to the proof where its number is read.
-fn ranged(arity: Option<Arity>) -> Option<Arity>
-    ensures value { result ≡ arity }
-    ensures in_range { IfSome result (λ arity. (0 < arity) × (arity ≤ 4)) }
-{
-    let arity = arity?;
-    prove!(arity.number() <= 4);
-    Some(arity)
 }
 
 impl Selectors {
@@ -146,13 +136,5 @@ impl Selectors {
         }
         self.rows[usize::from(selector.number())] = None;
         Ok(())
-    }
-
-    /// For undoing: the selector is as it was before a change, live with this arity or not live.
-    pub fn restore(&mut self, selector: SelNo, arity: Option<Arity>)
-        ensures { self.new ≡ restore_selector self.old selector arity }
-    {
-        let arity = ranged(arity);
-        self.rows[usize::from(selector.number())] = arity;
     }
 }

@@ -1,6 +1,6 @@
 use Rattle.std.proofs.Common.{ap, ◌∙◌}
 use Rattle.dt_graph.specs.GraphChange.{drop_effect}
-use Rattle.dt_graph.proofs.Restored.{unlink_touches}
+use Rattle.dt_graph.proofs.Undone.{unlink_touches}
 use Rattle.dt_graph.proofs.class_graph.ClassGraph.remove_link.Goals as goal
 
 pub invariant_of-self : goal.invariant_of-self
