@@ -40,21 +40,6 @@ before-total (x ∷ xs) [] b s = refl
 before-total (x ∷ xs) (y ∷ ys) b s =
     let r = before-total xs ys in grind (arith, nat_tests)
 
--- not both ways
-pub before-asym : (xs ys : List ℕ) → IsTrue (are_classes_before xs ys) → are_classes_before ys xs ≡ false
-before-asym [] [] p = refl
-before-asym [] (y ∷ ys) p = refl
-before-asym (x ∷ xs) [] p = cc
-before-asym (x ∷ xs) (y ∷ ys) p =
-    let r = before-asym xs ys in grind (arith, nat_tests)
-
-pub before-differs : (xs ys : List ℕ) → IsTrue (are_classes_before xs ys) → same_classes xs ys ≡ false
-before-differs [] [] p = cc
-before-differs [] (y ∷ ys) p = refl
-before-differs (x ∷ xs) [] p = cc
-before-differs (x ∷ xs) (y ∷ ys) p =
-    let r = before-differs xs ys in grind (arith, nat_tests)
-
 pub same-sym : (xs ys : List ℕ) → same_classes xs ys ≡ same_classes ys xs
 same-sym [] [] = refl
 same-sym [] (y ∷ ys) = refl

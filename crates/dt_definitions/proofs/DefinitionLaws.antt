@@ -1,12 +1,12 @@
 -- What definitions do to bodies, and that they may be made in either order.
-use Rattle.std.proofs.Common.{◌≡◌, ℕ, true, false, cond, not, List, [], ◌∷◌, filter, None, Some, IsTrue, refl, sym, ap, ◌∙◌, arith}
-use Rattle.dt_definitions.specs.Program.{Definition, Program, is_definition, is_definition_before, place_definition, body_of}
+use Rattle.std.proofs.Common.{◌≡◌, ℕ, cond, not, List, [], ◌∷◌, filter, None, Some, IsTrue, refl, sym, ap, ◌∙◌, arith}
+use Rattle.dt_definitions.specs.Program.{Definition, Program, is_definition, place_definition, body_of, key_of, is_key_before, is_same_key}
 use Rattle.dt_definitions.specs.Step.{with_definitions}
 use Rattle.dt_definitions.specs.Laws.{the, LeadsTo, DefineSetsOneBody, UndefineClearsOneBody, DefinesCommute}
 use Rattle.dt_definitions.specs.declared.edit.Edit.TheVariants.{Define, Undefine}
 use Rattle.dt_definitions.proofs.AnswerLaws.{ok_has_no_cause}
-use Rattle.dt_definitions.proofs.DefinitionOrder.{is_definition-equal, def_before-trans, def_before-total}
-use Rattle.dt_definitions.proofs.Placing.{IsFirst, place-first, place-over, place-after}
+use Rattle.dt_definitions.proofs.DefinitionOrder.{is_definition-equal, key_order}
+use Rattle.dt_graph.proofs.InOrder.{places-commute}
 
 -- ---- the body at a place, after a definition is made or goes
 
@@ -51,50 +51,6 @@ undefine_clears_one_body p q s cs h other at =
 
 -- ---- two definitions in either order
 
-first-placed : (d e : Definition) (ds : List Definition)
-    → IsTrue (is_definition_before d e) → IsFirst d ds → IsFirst d (place_definition e ds)
-first-placed d e [] b h = b
-first-placed d e (f ∷ ds) b h =
-    elim (is_definition_before e f) as (λ t. IsFirst d (cond t (e ∷ f ∷ ds) (cond (is_definition e.selector e.classes f) (e ∷ ds) (f ∷ place_definition e ds)))) [
-      | true ↦ b
-      | false ↦ elim (is_definition e.selector e.classes f) as (λ t. IsFirst d (cond t (e ∷ ds) (f ∷ place_definition e ds))) [ true ↦ b | false ↦ h ]
-    ]
-
--- the first in the order, then the second, or the other way round
-place-swap : (d e : Definition) (ds : List Definition) → IsTrue (is_definition_before d e)
-    → place_definition d (place_definition e ds) ≡ place_definition e (place_definition d ds)
-place-swap d e [] b = place-first d (e ∷ []) b ∙ sym (place-after e d [] b)
-place-swap d e (f ∷ ds) b =
-    elim (is_definition_before d f) as (λ t. is_definition_before d f ≡ t
-    → place_definition d (place_definition e (f ∷ ds)) ≡ place_definition e (place_definition d (f ∷ ds))) [
-      | true ↦ λ first.
-          place-first d (place_definition e (f ∷ ds)) (first-placed d e (f ∷ ds) b first)
-          ∙ sym (ap (place_definition e) (place-first d (f ∷ ds) first) ∙ place-after e d (f ∷ ds) b)
-      | false ↦ λ late. elim (is_definition d.selector d.classes f) as (λ t. is_definition d.selector d.classes f ≡ t
-          → place_definition d (place_definition e (f ∷ ds)) ≡ place_definition e (place_definition d (f ∷ ds))) [
-            | true ↦ λ same.
-                let q = is_definition-equal d.selector d.classes f same in
-                let behind : IsTrue (is_definition_before f e) = rw (q.0, q.1) b in
-                ap (place_definition d) (place-after e f ds behind) ∙ place-over d f (place_definition e ds) same
-                ∙ sym (ap (place_definition e) (place-over d f ds same) ∙ place-after e d ds b)
-            | false ↦ λ other.
-                let before : IsTrue (is_definition_before f d) = def_before-total d f late other in
-                let behind = def_before-trans f d e before b in
-                ap (place_definition d) (place-after e f ds behind) ∙ place-after d f (place_definition e ds) before
-                ∙ ap (λ es. f ∷ es) (place-swap d e ds b)
-                ∙ sym (ap (place_definition e) (place-after d f ds before) ∙ place-after e f (place_definition d ds) behind)
-          ] refl
-    ] refl
-
-pub place-commutes : (d e : Definition) (ds : List Definition) → is_definition d.selector d.classes e ≡ false
-    → place_definition d (place_definition e ds) ≡ place_definition e (place_definition d ds)
-place-commutes d e ds differ =
-    elim (is_definition_before d e) as (λ t. is_definition_before d e ≡ t
-    → place_definition d (place_definition e ds) ≡ place_definition e (place_definition d ds)) [
-      | true ↦ λ b. place-swap d e ds b
-      | false ↦ λ late. sym (place-swap e d ds (def_before-total d e late differ))
-    ] refl
-
 -- the program after two definitions
 both_placed : (p q : Program) (a b : Definition)
     → LeadsTo p (Define a.selector a.classes a.body ∷ Define b.selector b.classes b.body ∷ []) q
@@ -107,5 +63,5 @@ both_placed p q a b h =
 pub defines_commute : DefinesCommute
 defines_commute p q r a b differ h k =
     both_placed p q a b h
-    ∙ ap (with_definitions p) (sym (place-commutes a b p.definitions differ))
+    ∙ ap (with_definitions p) (sym (places-commute key_of is_key_before is_same_key key_order a b p.definitions differ))
     ∙ sym (both_placed p r b a k)

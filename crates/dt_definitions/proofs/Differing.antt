@@ -1,5 +1,5 @@
 -- A batch leaves a program that differs from the old one only where its edits say.
-use Rattle.std.proofs.Common.{◌≡◌, ◌==◌, ℕ, Bool, false, not, List, [], ◌∷◌, ◌++◌, filter, Ok, refl, sym, ap, subst, ◌∙◌, arith}
+use Rattle.std.proofs.Common.{◌≡◌, ◌==◌, ℕ, Bool, false, not, List, [], ◌∷◌, ◌++◌, filter, refl, sym, ap, subst, ◌∙◌, arith}
 use Rattle.std.proofs.lemmas.Bool.{or_parts}
 use Rattle.std.proofs.lemmas.Bool.Decides.{nat_tests}
 use Rattle.std.proofs.lemmas.List.Folds.{list_any-append}
@@ -11,9 +11,8 @@ use Rattle.dt_graph.proofs.ListMembers.{In-from_Contains, Contains-from_In, In-f
 use Rattle.dt_graph.proofs.PlacedMembers.{In-place, In-from_place}
 use Rattle.dt_definitions.specs.Program.{Definition, Program, is_definition, place_definition, key_of, is_key_before, is_same_key}
 use Rattle.dt_definitions.specs.declared.definition_key.DefinitionKey.{DefinitionKey}
-use Rattle.dt_definitions.specs.Lawful.{Lawful, IsInRange}
 use Rattle.dt_definitions.specs.Laws.{LeadsTo}
-use Rattle.dt_definitions.specs.Step.{effect, step}
+use Rattle.dt_definitions.specs.Step.{effect}
 use Rattle.dt_definitions.specs.Differing.{OthersStayDefined, DifferOnlyAt, is_at_any, edited_by, redefined_by, edited_classes, redefined_keys}
 use Rattle.dt_definitions.specs.BatchLaws.{BatchesDifferWhereTheySay, BatchesKeepLaw}
 use Rattle.dt_definitions.specs.declared.edit.Edit.{Edit}
@@ -120,7 +119,6 @@ batches_differ old new edits accepted = by_edits old new edits (batch_is_its_edi
 
 -- ---- and that is lawful
 
-pub batches_keep_law : ((old : Program) (edit : Edit) (new : Program) → Lawful old → IsInRange edit → step old edit ≡ Ok new → Lawful new) →
-    BatchesKeepLaw
-batches_keep_law law old new edits lawful in_range accepted =
-    lawful-along law old new edits (batch_is_its_edits old new edits accepted) lawful in_range
+pub batches_keep_law : BatchesKeepLaw
+batches_keep_law old new edits lawful in_range accepted =
+    lawful-along old new edits (batch_is_its_edits old new edits accepted) lawful in_range

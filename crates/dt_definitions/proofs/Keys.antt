@@ -1,11 +1,11 @@
 -- The keys of those of a list in strict order that a test of the key lets through.
-use Rattle.std.proofs.Common.{◌≡◌, Bool, true, false, cond, IsTrue, All, List, [], ◌∷◌, map, filter, None, refl, sym, ap, ◌∙◌, arith}
+use Rattle.std.proofs.Common.{◌≡◌, Bool, true, false, cond, IsTrue, All, List, [], ◌∷◌, map, filter, refl, sym, ap, ◌∙◌, arith}
 use Rattle.std.specs.Prelude.{IsSome}
 use Rattle.std.specs.List.{list_any}
 use Rattle.std.proofs.lemmas.Bool.{false≢true}
-use Rattle.std.proofs.lemmas.List.Elements.{All-cons, All-head, All-tail, All-weaker}
+use Rattle.std.proofs.lemmas.List.Elements.{All-head, All-tail}
 use Rattle.dt_graph.specs.InOrder.{StrictOrder, Ascends, place, find_at, without}
-use Rattle.dt_graph.proofs.InOrder.{first_before_all, Ascends-tail, none_found, placed}
+use Rattle.dt_graph.proofs.InOrder.{Ascends-tail, before_first, none_listed, placed}
 
 module _ {X K : Type 0} (key : X → K) (before same : K → K → Bool) (order : StrictOrder before same) (test : K → Bool) where
   abbrev itself : K → K
@@ -30,13 +30,9 @@ module _ {X K : Type 0} (key : X → K) (before same : K → K → Bool) (order 
       → keys (place key before same new xs) ≡ cond (test (key new)) (place itself before same (key new) (keys xs)) (keys xs)
   keys-place new [] u = elim (test (key new)) as (λ t. map key (cond t (new ∷ []) []) ≡ cond t (key new ∷ []) []) [ true ↦ refl | false ↦ refl ]
   keys-place new (x ∷ xs) u =
-      let all = first_before_all key before same order x xs u in
       placed key before same order (λ ys. keys ys ≡ cond (test (key new)) (place itself before same (key new) (keys (x ∷ xs))) (keys (x ∷ xs))) new x xs
       (λ b.
-      let every = All-cons (λ y. IsTrue (before (key new) (key y))) x xs b
-      (All-weaker (λ y. IsTrue (before (key x) (key y))) (λ y. IsTrue (before (key new) (key y)))
-      (λ y l. order.transitive (key new) (key x) (key y) b l) xs all) in
-      let front = before_keys (key new) (x ∷ xs) every in
+      let front = before_keys (key new) (x ∷ xs) (before_first key before same order (key new) x xs u b) in
       elim (test (key new)) as (λ t. map key (cond t (new ∷ filter (λ y. test (key y)) (x ∷ xs)) (filter (λ y. test (key y)) (x ∷ xs)))
       ≡ cond t (place itself before same (key new) (keys (x ∷ xs))) (keys (x ∷ xs))) [ true ↦ sym front | false ↦ refl ])
       (λ b s.
@@ -51,19 +47,10 @@ module _ {X K : Type 0} (key : X → K) (before same : K → K → Bool) (order 
       → keys (place key before same new xs) ≡ keys xs
   keys-again new [] u there = absurd (false≢true there)
   keys-again new (x ∷ xs) u there =
-      let all = first_before_all key before same order x xs u in
       placed key before same order (λ ys. keys ys ≡ keys (x ∷ xs)) new x xs
-      (λ b.
-      let every = All-cons (λ y. IsTrue (before (key new) (key y))) x xs b
-      (All-weaker (λ y. IsTrue (before (key x) (key y))) (λ y. IsTrue (before (key new) (key y)))
-      (λ y l. order.transitive (key new) (key x) (key y) b l) xs all) in
-      absurd (false≢true (sym (none_any (key new) (x ∷ xs) (none_found key before same order (key new) (x ∷ xs) every)) ∙ there)))
+      (λ b. absurd (false≢true (sym (none_listed key before same order (key new) x xs u b) ∙ there)))
       (λ b s. let e = order.equal (key new) (key x) s in let t = ap test e in grind arith)
       (λ b s. let r = keys-again new xs (Ascends-tail key before same order x xs u) (rw s at there) in grind arith)
-    where
-      none_any : (k : K) (xs : List X) → find_at key same k xs ≡ None → list_any (λ x. same k (key x)) xs ≡ false
-      none_any k [] h = refl
-      none_any k (x ∷ xs) h = let r = none_any k xs in grind arith
 
   pub keys-without : (k : K) (xs : List X)
       → keys (without key same k xs) ≡ cond (test k) (without itself same k (keys xs)) (keys xs)

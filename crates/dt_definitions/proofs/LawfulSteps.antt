@@ -6,13 +6,11 @@ use Rattle.std.proofs.lemmas.Bool.Decides.{nat_tests}
 use Rattle.std.proofs.lemmas.List.Folds.{list_any_at}
 use Rattle.std.proofs.lemmas.List.Elements.{All-nil, All-cons, All-filter, All-weaker, filter_passes}
 use Rattle.dt_graph.specs.Refusal.{cause_if}
-use Rattle.dt_graph.specs.Graph.{Graph, empty_graph, has_number, is_live, place_number}
-use Rattle.dt_graph.specs.GraphChange.{add_cause, add_effect, drop_cause, drop_effect, link_cause, link_effect, unlink_cause, unlink_effect, first_unknown}
+use Rattle.dt_graph.specs.Graph.{Graph, has_number, is_live, place_number}
+use Rattle.dt_graph.specs.GraphChange.{add_cause, add_effect, drop_cause, drop_effect, link_cause, link_effect, unlink_effect, first_unknown}
 use Rattle.dt_graph.specs.Lawful.{LawfulGraph}
-use Rattle.dt_graph.specs.declared.limits.TheConstants.{CLASSES}
 use Rattle.dt_selectors.specs.Selectors.{Selector, arity_in, has_selector, place_selector, without_selector}
-use Rattle.dt_selectors.specs.Lawful.{LawfulSelector, LawfulSelectors}
-use Rattle.dt_selectors.specs.Laws.{AddingSetsOneArity, DroppingUnsetsOneArity}
+use Rattle.dt_selectors.specs.Lawful.{LawfulSelectors}
 use Rattle.dt_definitions.specs.Program.{Definition, Program, empty_program, arity_of, definitions_of, is_definition, place_definition, key_of, is_key_before, is_same_key}
 use Rattle.dt_definitions.specs.Lawful.{LawfulDefinition, Lawful, IsInRange}
 use Rattle.dt_definitions.specs.Step.{why_of, is_named, is_defined, arity_differs, refusal, effect, step, with_graph, with_selectors, with_definitions, Applies}
@@ -24,6 +22,9 @@ use Rattle.dt_definitions.specs.declared.why.ApplyFault.{ApplyFault}
 use Rattle.dt_definitions.proofs.AnswerLaws.{ok_has_no_cause, ok_alone_changes}
 use Rattle.dt_definitions.proofs.DefinitionOrder.{key_order, place-ascends, filter-ascends}
 use Rattle.dt_graph.proofs.InOrder.{All-place}
+use Rattle.dt_graph.proofs.LawfulChanges as graph
+use Rattle.dt_selectors.proofs.LawfulChanges as selectors
+use Rattle.dt_selectors.proofs.Arities.{adding, dropping}
 use Rattle.dt_definitions.proofs.Steps.{NoCause, no_cause, not_caused, none_mapped, few-place, few-filter, may_define}
 
 -- a class of a definition is named, and a definition's selector is defined
@@ -108,94 +109,86 @@ arity_known p s cs h d =
       | (Some a) ↦ λ h d. let e : eqb a (length cs) ≡ true = grind arith in ap Some (eqb-true a (length cs) e)
     ] h d
 
-module _ (graph_add : (g : Graph) (class : ℕ) (parents : List ℕ) → LawfulGraph g → class < CLASSES → add_cause g class parents ≡ None → LawfulGraph (add_effect g class parents))
-    (graph_drop : (g : Graph) (class : ℕ) → LawfulGraph g → drop_cause g class ≡ None → LawfulGraph (drop_effect g class))
-    (graph_link : (g : Graph) (class parent : ℕ) → LawfulGraph g → link_cause g class parent ≡ None → LawfulGraph (link_effect g class parent))
-    (graph_unlink : (g : Graph) (class parent : ℕ) → LawfulGraph g → unlink_cause g class parent ≡ None → LawfulGraph (unlink_effect g class parent))
-    (selector_add : (ss : List Selector) (s : Selector) → LawfulSelectors ss → LawfulSelector s → LawfulSelectors (place_selector s ss))
-    (selector_drop : (ss : List Selector) (s : ℕ) → LawfulSelectors ss → LawfulSelectors (without_selector ss s))
-    (arity_added : AddingSetsOneArity) (arity_dropped : DroppingUnsetsOneArity) where
-  effect-lawful : (p : Program) (edit : Edit) → Lawful p → IsInRange edit → None ≡ refusal p edit → Lawful (effect p edit)
-  effect-lawful p (AddClass class parents) l r h =
-      graph_changed p (add_effect p.graph class parents) l
-      (graph_add p.graph class parents l.graph r (none_mapped (add_cause p.graph class parents) (sym h)))
-      (λ c _ live. live-placed class c p.graph.classes live)
-  effect-lawful p (DropClass class) l r h =
-      let causes : List (Option Why) = option_map why_of (drop_cause p.graph class) ∷ cause_if (is_named p class) why.HasDefinitions ∷ [] in
-      let n : NoCause causes = no_cause causes h in
-      let unnamed = not_caused (is_named p class) why.HasDefinitions n.1.0 in
-      graph_changed p (drop_effect p.graph class) l
-      (graph_drop p.graph class l.graph (none_mapped (drop_cause p.graph class) n.0))
-      (λ c named live. live-filtered class c p.graph.classes
-      (λ e. false≢true (sym unnamed ∙ subst (λ k. is_named p k ≡ true) e named)) live)
-  effect-lawful p (Link class parent) l r h =
-      graph_changed p (link_effect p.graph class parent) l
-      (graph_link p.graph class parent l.graph (none_mapped (link_cause p.graph class parent) (sym h)))
-      (λ c _ live. live)
-  effect-lawful p (Unlink class parent) l r h =
-      graph_changed p (unlink_effect p.graph class parent) l
-      (graph_unlink p.graph class parent l.graph (none_mapped (unlink_cause p.graph class parent) (sym h)))
-      (λ c _ live. live)
-  effect-lawful p (AddSelector selector arity) l r h =
-      let new : Selector = record { number = selector; arity = arity } in
-      let absent = not_caused (has_selector p.selectors selector) why.SelectorExists (sym h) in
-      selectors_changed p (place_selector new p.selectors) l (selector_add p.selectors new l.selectors r)
-      (λ s _ known.
-      let other = ne_eqb selector s (λ e. false≢true (sym absent ∙ subst (λ k. has_selector p.selectors k ≡ true) (sym e) known)) in
-      arity_added p.selectors new s ∙ rw other refl)
-  effect-lawful p (DropSelector selector) l r h =
-      let causes : List (Option Why) = cause_if (not (has_selector p.selectors selector)) why.SelectorUnknown ∷ cause_if (is_defined p selector) why.HasDefinitions ∷ [] in
-      let n : NoCause causes = no_cause causes h in
-      let undefined = not_caused (is_defined p selector) why.HasDefinitions n.1.0 in
-      selectors_changed p (without_selector p.selectors selector) l (selector_drop p.selectors selector l.selectors)
-      (λ s defined _.
-      let other = ne_eqb selector s (λ e. false≢true (sym undefined ∙ subst (λ k. is_defined p k ≡ true) (sym e) defined)) in
-      arity_dropped p.selectors selector s ∙ rw other refl)
-  effect-lawful p (Define selector classes body) l r h =
-      let d : Definition = record { selector = selector; classes = classes; body = body } in
-      let ds = place_definition d p.definitions in
-      let may = may_define p selector classes body h in
-      record {
-        graph = l.graph;
-        selectors = l.selectors;
-        definitions_ascend = place-ascends d p.definitions l.definitions_ascend;
-        definitions_lawful = place-all (LawfulDefinition (with_definitions p ds)) d p.definitions
-            (record { arity_fits = arity_known p selector classes may.known may.arity; classes_live = all_live p.graph classes may.live; body_in_range = r })
-            (λ i e m. beside p ds (get_or p.definitions i e) (l.definitions_lawful i e m));
-        few_definitions = few-place d p.definitions l.definitions_ascend l.few_definitions may.few;
-      }
-  effect-lawful p (Undefine selector classes) l r h =
-      let others = λ (d : Definition). not (is_definition selector classes d) in
-      let ds = filter others p.definitions in
-      record {
-        graph = l.graph;
-        selectors = l.selectors;
-        definitions_ascend = filter-ascends others p.definitions l.definitions_ascend;
-        definitions_lawful = All-filter others (LawfulDefinition (with_definitions p ds)) p.definitions
-            (λ i e m. beside p ds (get_or p.definitions i e) (l.definitions_lawful i e m));
-        few_definitions = omega (arith, few-filter others p.definitions, l.few_definitions);
-      }
+effect-lawful : (p : Program) (edit : Edit) → Lawful p → IsInRange edit → None ≡ refusal p edit → Lawful (effect p edit)
+effect-lawful p (AddClass class parents) l r h =
+    graph_changed p (add_effect p.graph class parents) l
+    (graph.add_keeps p.graph class parents l.graph r (none_mapped (add_cause p.graph class parents) (sym h)))
+    (λ c _ live. live-placed class c p.graph.classes live)
+effect-lawful p (DropClass class) l r h =
+    let causes : List (Option Why) = option_map why_of (drop_cause p.graph class) ∷ cause_if (is_named p class) why.HasDefinitions ∷ [] in
+    let n : NoCause causes = no_cause causes h in
+    let unnamed = not_caused (is_named p class) why.HasDefinitions n.1.0 in
+    graph_changed p (drop_effect p.graph class) l
+    (graph.drop_keeps p.graph class l.graph (none_mapped (drop_cause p.graph class) n.0))
+    (λ c named live. live-filtered class c p.graph.classes
+    (λ e. false≢true (sym unnamed ∙ subst (λ k. is_named p k ≡ true) e named)) live)
+effect-lawful p (Link class parent) l r h =
+    graph_changed p (link_effect p.graph class parent) l
+    (graph.link_keeps p.graph class parent l.graph (none_mapped (link_cause p.graph class parent) (sym h)))
+    (λ c _ live. live)
+effect-lawful p (Unlink class parent) l r h =
+    graph_changed p (unlink_effect p.graph class parent) l
+    (graph.unlink_keeps p.graph class parent l.graph)
+    (λ c _ live. live)
+effect-lawful p (AddSelector selector arity) l r h =
+    let new : Selector = record { number = selector; arity = arity } in
+    let absent = not_caused (has_selector p.selectors selector) why.SelectorExists (sym h) in
+    selectors_changed p (place_selector new p.selectors) l (selectors.add_keeps p.selectors new l.selectors r)
+    (λ s _ known.
+    let other = ne_eqb selector s (λ e. false≢true (sym absent ∙ subst (λ k. has_selector p.selectors k ≡ true) (sym e) known)) in
+    adding p.selectors new s ∙ rw other refl)
+effect-lawful p (DropSelector selector) l r h =
+    let causes : List (Option Why) = cause_if (not (has_selector p.selectors selector)) why.SelectorUnknown ∷ cause_if (is_defined p selector) why.HasDefinitions ∷ [] in
+    let n : NoCause causes = no_cause causes h in
+    let undefined = not_caused (is_defined p selector) why.HasDefinitions n.1.0 in
+    selectors_changed p (without_selector p.selectors selector) l (selectors.drop_keeps p.selectors selector l.selectors)
+    (λ s defined _.
+    let other = ne_eqb selector s (λ e. false≢true (sym undefined ∙ subst (λ k. is_defined p k ≡ true) (sym e) defined)) in
+    dropping p.selectors selector s ∙ rw other refl)
+effect-lawful p (Define selector classes body) l r h =
+    let d : Definition = record { selector = selector; classes = classes; body = body } in
+    let ds = place_definition d p.definitions in
+    let may = may_define p selector classes body h in
+    record {
+      graph = l.graph;
+      selectors = l.selectors;
+      definitions_ascend = place-ascends d p.definitions l.definitions_ascend;
+      definitions_lawful = place-all (LawfulDefinition (with_definitions p ds)) d p.definitions
+          (record { arity_fits = arity_known p selector classes may.known may.arity; classes_live = all_live p.graph classes may.live; body_in_range = r })
+          (λ i e m. beside p ds (get_or p.definitions i e) (l.definitions_lawful i e m));
+      few_definitions = few-place d p.definitions l.definitions_ascend l.few_definitions may.few;
+    }
+effect-lawful p (Undefine selector classes) l r h =
+    let others = λ (d : Definition). not (is_definition selector classes d) in
+    let ds = filter others p.definitions in
+    record {
+      graph = l.graph;
+      selectors = l.selectors;
+      definitions_ascend = filter-ascends others p.definitions l.definitions_ascend;
+      definitions_lawful = All-filter others (LawfulDefinition (with_definitions p ds)) p.definitions
+          (λ i e m. beside p ds (get_or p.definitions i e) (l.definitions_lawful i e m));
+      few_definitions = omega (arith, few-filter others p.definitions, l.few_definitions);
+    }
 
-  pub step-lawful : (old : Program) (edit : Edit) (new : Program) → Lawful old → IsInRange edit → step old edit ≡ Ok new → Lawful new
-  step-lawful old edit new l r h =
-      let made = ok_has_no_cause old new edit h in
-      subst Lawful (sym made.1) (effect-lawful old edit l r (sym made.0))
+pub step-lawful : (old : Program) (edit : Edit) (new : Program) → Lawful old → IsInRange edit → step old edit ≡ Ok new → Lawful new
+step-lawful old edit new l r h =
+    let made = ok_has_no_cause old new edit h in
+    subst Lawful (sym made.1) (effect-lawful old edit l r (sym made.0))
 
-pub empty-lawful : LawfulGraph empty_graph → LawfulSelectors [] → Lawful empty_program
-empty-lawful g s = record {
-  graph = g;
-  selectors = s;
+pub empty-lawful : Lawful empty_program
+empty-lawful = record {
+  graph = graph.empty_lawful;
+  selectors = selectors.empty_lawful;
   definitions_ascend = tt;
   definitions_lawful = All-nil (LawfulDefinition empty_program);
   few_definitions = omega arith;
 }
 
 -- whatever the answer of an edit, the program after it is lawful
-pub answer-lawful : ((old : Program) (edit : Edit) (new : Program) → Lawful old → IsInRange edit → step old edit ≡ Ok new → Lawful new)
-    → (old new : Program) (edit : Edit) (answer : Result (Unit {0}) ApplyFault)
+pub answer-lawful : (old new : Program) (edit : Edit) (answer : Result (Unit {0}) ApplyFault)
     → Lawful old → IsInRange edit → Applies old edit new answer → Lawful new
-answer-lawful law old new edit (Ok _) l r h = law old edit new l r h
-answer-lawful law old new edit (Err fault) l r h = subst Lawful (sym (ok_alone_changes old new edit fault h)) l
+answer-lawful old new edit (Ok _) l r h = step-lawful old edit new l r h
+answer-lawful old new edit (Err fault) l r h = subst Lawful (sym (ok_alone_changes old new edit fault h)) l
 
 -- the definitions of one selector fit it
 pub definitions-fit : (p : Program) → Lawful p → (s : ℕ)

@@ -2,7 +2,6 @@ pub mod ClassOrder
 pub mod Searching
 pub mod ListOrder
 pub mod DefinitionOrder
-pub mod Placing
 pub mod DefinedOnce
 pub mod Lengths
 pub mod Keys

@@ -1,15 +1,15 @@
 -- The definitions of rows, by the number of the first row's selector.
-use Rattle.std.proofs.Common.{◌≡◌, ℕ, zero, suc, ◌+◌, ◌<◌, Bool, not, List, [], ◌∷◌, ◌++◌, length, get_or, set, filter, find, IsTrue, refl, sym, ◌∙◌, subst, arith, eqb}
+use Rattle.std.proofs.Common.{◌≡◌, ℕ, zero, suc, ◌+◌, ◌<◌, Bool, not, List, [], ◌∷◌, ◌++◌, length, get_or, set, filter, find, All, IsTrue, refl, sym, ◌∙◌, subst, arith, eqb}
 use Rattle.std.specs.List.{list_any}
 use Rattle.std.proofs.lemmas.Bool.{eq-eqb, ne_eqb}
 use Rattle.std.proofs.lemmas.Bool.Decides.{nat_tests}
 use Rattle.std.proofs.lemmas.List.{append-nil}
-use Rattle.std.proofs.lemmas.List.Elements.{filter-append}
-use Rattle.dt_definitions.specs.Program.{Definition, is_definition, place_definition}
-use Rattle.dt_definitions.specs.SelectorLists.{SelectorList, with_selector, definitions_from, NoneDefined}
+use Rattle.std.proofs.lemmas.List.Elements.{All-nil, All-cons, filter-append}
+use Rattle.dt_definitions.specs.Program.{Definition, is_definition, place_definition, key_of, is_key_before, is_same_key}
+use Rattle.dt_definitions.specs.SelectorLists.{SelectorList, definition_of, with_selector, definitions_from, NoneDefined}
 use Rattle.dt_definitions.specs.declared.defined.Defined.{Defined}
-use Rattle.dt_definitions.proofs.DefinitionOrder.{StandsFirst}
-use Rattle.dt_definitions.proofs.Placing.{is_first, place-first}
+use Rattle.dt_definitions.proofs.DefinitionOrder.{key_order}
+use Rattle.dt_graph.proofs.InOrder.{place_first}
 
 -- rows with no definition have none together
 pub none_from_empty : (k : ℕ) (rows : List SelectorList) → NoneDefined rows → definitions_from k rows ≡ []
@@ -61,9 +61,13 @@ pub find_of : (s : ℕ) (p : Definition → Bool) (ds : List Definition)
 find_of s p [] h = refl
 find_of s p (d ∷ ds) h = let r = find_of s p ds h in let q = h d in grind (arith, nat_tests)
 
+-- the definition stands before each of the list
+abbrev StandsFirst : Definition → List Definition → Type 0
+StandsFirst d ds = All (λ e. IsTrue (is_key_before (key_of d) (key_of e))) ds
+
 -- placing in front of what stands behind, and behind what stands in front
 place_left : (d : Definition) (xs ys : List Definition) → StandsFirst d ys → place_definition d (xs ++ ys) ≡ place_definition d xs ++ ys
-place_left d [] ys h = place-first d ys (is_first d ys h)
+place_left d [] ys h = place_first key_of is_key_before is_same_key key_order d ys h
 place_left d (e ∷ xs) ys h = let r = place_left d xs ys h in grind arith
 
 place_right : (d : Definition) (k : ℕ) (row : List Defined) (ys : List Definition)
@@ -74,10 +78,11 @@ place_right d k (e ∷ row) ys l = let r = place_right d k row ys l in grind (ar
 first_of_row : (d : Definition) (k : ℕ) (row : List Defined) (ys : List Definition)
     → d.selector < k → StandsFirst d ys → StandsFirst d (with_selector k row ++ ys)
 first_of_row d k [] ys l h = h
-first_of_row d k (e ∷ row) ys l h = (grind (arith, nat_tests), first_of_row d k row ys l h)
+first_of_row d k (e ∷ row) ys l h = All-cons (λ e. IsTrue (is_key_before (key_of d) (key_of e))) (definition_of k e) (with_selector k row ++ ys)
+    (grind (arith, nat_tests)) (first_of_row d k row ys l h)
 
 first_of_rows : (d : Definition) (k : ℕ) (rows : List SelectorList) → d.selector < k → StandsFirst d (definitions_from k rows)
-first_of_rows d k [] l = tt
+first_of_rows d k [] l = All-nil (λ e. IsTrue (is_key_before (key_of d) (key_of e)))
 first_of_rows d k (row ∷ rows) l = first_of_row d k row.defined (definitions_from (k + 1) rows) l (first_of_rows d (k + 1) rows (omega arith))
 
 -- placing a definition changes its selector's row

@@ -56,11 +56,7 @@ pub fn steps_keep_law()
     ensures empty { Lawful empty_program }
     ensures step { (old : Program) (edit : Edit) (new : Program) → Lawful old → IsInRange edit
         → step old edit ≡ Ok new → Lawful new }
-{
-    dt_graph::changes_keep_law();
-    dt_selectors::changes_keep_law();
-    dt_selectors::changes_touch_one_selector();
-}
+{}
 
 /// A batch is accepted exactly where its edits are, made one by one; and it is refused at the first of them that is
 /// refused by itself, for the same cause. It does nothing: a caller whose reasoning needs this calls it.
@@ -83,9 +79,7 @@ pub fn definitions_stand_alone()
 /// it.
 pub fn histories_are_lawful()
     ensures { HistoriesAreLawful }
-{
-    steps_keep_law();
-}
+{}
 
 /// What [`Program::law`](crate::Program::law) says of a program at hand, of every lawful program. It does nothing: a
 /// caller whose reasoning needs this calls it.
@@ -103,9 +97,7 @@ pub fn lawful_programs()
 pub fn batches_differ_where_they_say()
     ensures lawful { BatchesKeepLaw }
     ensures differ { BatchesDifferWhereTheySay }
-{
-    steps_keep_law();
-}
+{}
 
 /// The program after a history and one batch more is the step of that batch, or stays where that is refused. It does
 /// nothing: a caller whose reasoning needs this calls it.

@@ -9,7 +9,6 @@ ghost use Rattle.dt_definitions.specs.Memory.{may_want_memory, NoMemoryOnlyWhere
 
 use crate::all_definitions::AllDefinitions;
 use crate::edit::Edit;
-use crate::laws::steps_keep_law;
 use crate::tuple::Tuple;
 use crate::why::ApplyFault;
 use dt_graph::{ClassGraph, ClassNo};
@@ -34,7 +33,6 @@ impl Parts {
         ensures room { OnOk result (HasRoom self.new.definitions edit.now) }
         ensures room_stays { RoomStays self.old.definitions.rooms self.new.definitions.rooms }
     {
-        steps_keep_law();
         edit.law();
         self.perform(edit)
     }

@@ -1,9 +1,10 @@
 -- Lists in strict order stay so where an element is placed and where some are left out; and a change is undone.
-use Rattle.std.proofs.Common.{◌≡◌, Bool, true, false, cond, IsTrue, List, [], ◌∷◌, Option, None, Some, is_some, All, filter, find, refl, sym, ap, subst, ◌∙◌}
-use Rattle.std.specs.List.{list_any}
+use Rattle.std.proofs.Common.{◌≡◌, ◌+◌, ◌≤◌, Bool, true, false, cond, IsTrue, List, [], ◌∷◌, Option, None, Some, is_some, All, filter, find, refl, sym, ap, subst, ◌∙◌}
+use Rattle.std.specs.List.{list_any, count_by}
 use Rattle.std.proofs.Common.{arith}
 use Rattle.std.proofs.lemmas.Bool.{cond_both, false≢true}
 use Rattle.std.proofs.lemmas.List.Elements.{All-nil, All-cons, All-head, All-tail, All-weaker, All-filter}
+use Rattle.std.proofs.lemmas.List.Sums.{sum_by-cons}
 use Rattle.dt_graph.specs.InOrder.{StrictOrder, Ascends, place, find_at, without}
 
 -- an element is found exactly where one passes the test
@@ -82,6 +83,41 @@ module _ {X K : Type 0} (key : X → K) (before same : K → K → Bool) (order 
       rw (not_same k x (All-head (λ y. IsTrue (before k (key y))) x xs all))
       (none_found k xs (All-tail (λ y. IsTrue (before k (key y))) x xs all))
 
+  -- a key that stands before the first stands before all, and is not there
+  pub before_first : (k : K) (x : X) (xs : List X) → Ascends key before (x ∷ xs) → IsTrue (before k (key x)) → BeforeAll k (x ∷ xs)
+  before_first k x xs u b = All-cons (λ y. IsTrue (before k (key y))) x xs b
+      (All-weaker (λ y. IsTrue (before (key x) (key y))) (λ y. IsTrue (before k (key y)))
+      (λ y l. order.transitive k (key x) (key y) b l) xs (first_before_all x xs u))
+
+  absent_before : (k : K) (x : X) (xs : List X) → Ascends key before (x ∷ xs) → IsTrue (before k (key x)) → find_at key same k (x ∷ xs) ≡ None
+  absent_before k x xs u b = none_found k (x ∷ xs) (before_first k x xs u b)
+
+  pub none_listed : (k : K) (x : X) (xs : List X) → Ascends key before (x ∷ xs) → IsTrue (before k (key x)) → list_any (λ y. same k (key y)) (x ∷ xs) ≡ false
+  none_listed k x xs u b = sym (is_some-find (λ y. same k (key y)) (x ∷ xs)) ∙ ap is_some (absent_before k x xs u b)
+
+  -- the key of the first is not there again
+  pub not_again : (k : K) (x : X) (xs : List X) → Ascends key before (x ∷ xs) → IsTrue (same k (key x)) → find_at key same k xs ≡ None
+  not_again k x xs u s = none_found k xs (subst (λ q. BeforeAll q xs) (sym (order.equal k (key x) s)) (first_before_all x xs u))
+
+  none_counted : (k : K) (xs : List X) → find_at key same k xs ≡ None → count_by (λ x. same k (key x)) xs ≡ 0
+  none_counted k [] h = refl
+  none_counted k (x ∷ xs) h =
+      rw (sum_by-cons (λ y. cond (same k (key y)) 1 0) x xs)
+      (elim (same k (key x)) as (λ t. same k (key x) ≡ t → cond t 1 0 + count_by (λ y. same k (key y)) xs ≡ 0) [
+        | true ↦ λ s. absurd (let q = rw s at h in cc)
+        | false ↦ λ s. omega (arith, none_counted k xs (rw s at h))
+      ] refl)
+
+  -- no key stands twice
+  pub stands_once : (k : K) (xs : List X) → Ascends key before xs → count_by (λ x. same k (key x)) xs ≤ 1
+  stands_once k [] u = omega arith
+  stands_once k (x ∷ xs) u =
+      rw (sum_by-cons (λ y. cond (same k (key y)) 1 0) x xs)
+      (elim (same k (key x)) as (λ t. same k (key x) ≡ t → cond t 1 0 + count_by (λ y. same k (key y)) xs ≤ 1) [
+        | true ↦ λ s. omega (arith, none_counted k xs (not_again k x xs u s))
+        | false ↦ λ s. omega (arith, stands_once k xs (Ascends-tail x xs u))
+      ] refl)
+
   pub without_none : (k : K) (xs : List X) → find_at key same k xs ≡ None → without key same k xs ≡ xs
   without_none k [] h = refl
   without_none k (x ∷ xs) h =
@@ -133,14 +169,9 @@ module _ {X K : Type 0} (key : X → K) (before same : K → K → Bool) (order 
       let s = subst (λ q. same q (key d) ≡ true) (sym e) (order.reflexive (key d)) in
       rw (b, s) refl
 
-  -- a key that stands before the first is not there
   not_before : (k : K) (x : X) (xs : List X) (old : X) → Ascends key before (x ∷ xs) → find_at key same k (x ∷ xs) ≡ Some old
       → before k (key x) ≡ true → ⊥
-  not_before k x xs old u h b =
-      let rest = All-weaker (λ y. IsTrue (before (key x) (key y))) (λ y. IsTrue (before k (key y)))
-      (λ y l. order.transitive k (key x) (key y) b l) xs (first_before_all x xs u) in
-      let none = none_found k (x ∷ xs) (All-cons (λ y. IsTrue (before k (key y))) x xs b rest) in
-      absurd cc
+  not_before k x xs old u h b = let none = absent_before k x xs u b in absurd cc
 
   pub put_back_replaced : (d old : X) (xs : List X) → Ascends key before xs → find_at key same (key d) xs ≡ Some old
       → place key before same old (place key before same d xs) ≡ xs
@@ -170,7 +201,7 @@ module _ {X K : Type 0} (key : X → K) (before same : K → K → Bool) (order 
         | true ↦ λ s.
             let one : x ≡ old = (let e = rw s at h in cc) in
             let all = first_before_all x xs u in
-            let stays = without_none k xs (none_found k xs (subst (λ q. BeforeAll q xs) (sym (order.equal k (key x) s)) all)) in
+            let stays = without_none k xs (not_again k x xs u s) in
             rw s (ap (place key before same old) stays ∙ subst (λ y. place key before same y xs ≡ x ∷ xs) one (place_first x xs all))
         | false ↦ λ s.
             let b : before k (key x) ≡ false = elim (before k (key x)) as (λ t. before k (key x) ≡ t → t ≡ false) [
@@ -179,4 +210,63 @@ module _ {X K : Type 0} (key : X → K) (before same : K → K → Bool) (order 
             ] refl in
             rw s (place_behind old x k (without key same k xs) e b s
             ∙ ap (λ ys. x ∷ ys) (put_back_removed k old xs (Ascends-tail x xs u) (rw s at h)))
+      ] refl
+
+  -- ---- two in either order
+
+  -- the key stands before the first
+  abbrev IsFirst : K → List X → Type 0
+  IsFirst k [] = Unit {0}
+  IsFirst k (x ∷ xs) = IsTrue (before k (key x))
+
+  place_front : (d : X) (xs : List X) → IsFirst (key d) xs → place key before same d xs ≡ d ∷ xs
+  place_front d [] h = refl
+  place_front d (x ∷ xs) h = rw h refl
+
+  -- behind one that stands before it
+  place_after : (d x : X) (xs : List X) → IsTrue (before (key x) (key d)) → place key before same d (x ∷ xs) ≡ x ∷ place key before same d xs
+  place_after d x xs b = place_behind d x (key d) xs refl late other
+    where
+      back : (a : K) → before a a ≡ true → ⊥
+      back a h = false≢true (sym (order.irreflexive a) ∙ h)
+
+      late : before (key d) (key x) ≡ false
+      late = elim (before (key d) (key x)) as (λ t. before (key d) (key x) ≡ t → t ≡ false) [
+        | true ↦ λ h. absurd (back (key x) (order.transitive (key x) (key d) (key x) b h))
+        | false ↦ λ _. refl
+      ] refl
+
+      other : same (key d) (key x) ≡ false
+      other = elim (same (key d) (key x)) as (λ t. same (key d) (key x) ≡ t → t ≡ false) [
+        | true ↦ λ s. absurd (back (key x) (subst (λ q. before (key x) q ≡ true) (order.equal (key d) (key x) s) b))
+        | false ↦ λ _. refl
+      ] refl
+
+  first_placed : (d e : X) (xs : List X) → IsTrue (before (key d) (key e)) → IsFirst (key d) xs → IsFirst (key d) (place key before same e xs)
+  first_placed d e [] b h = b
+  first_placed d e (x ∷ xs) b h = placed (IsFirst (key d)) e x xs (λ _. b) (λ _ _. b) (λ _ _. h)
+
+  place-swap : (d e : X) (xs : List X) → IsTrue (before (key d) (key e))
+      → place key before same d (place key before same e xs) ≡ place key before same e (place key before same d xs)
+  place-swap d e [] b = place_front d (e ∷ []) b ∙ sym (place_after e d [] b)
+  place-swap d e (x ∷ xs) b =
+      placed (λ ys. place key before same d (place key before same e (x ∷ xs)) ≡ place key before same e ys) d x xs
+      (λ first. place_front d (place key before same e (x ∷ xs)) (first_placed d e (x ∷ xs) b first) ∙ sym (place_after e d (x ∷ xs) b))
+      (λ _ s.
+      let q = order.equal (key d) (key x) s in
+      ap (place key before same d) (place_after e x xs (subst (λ k. IsTrue (before k (key e))) q b))
+      ∙ place_over d x (place key before same e xs) q ∙ sym (place_after e d xs b))
+      (λ late other.
+      let before_d = order.total (key d) (key x) late other in
+      let behind = order.transitive (key x) (key d) (key e) before_d b in
+      ap (place key before same d) (place_after e x xs behind) ∙ place_after d x (place key before same e xs) before_d
+      ∙ ap (λ ys. x ∷ ys) (place-swap d e xs b) ∙ sym (place_after e x (place key before same d xs) behind))
+
+  pub places-commute : (d e : X) (xs : List X) → same (key d) (key e) ≡ false
+      → place key before same d (place key before same e xs) ≡ place key before same e (place key before same d xs)
+  places-commute d e xs differ =
+      elim (before (key d) (key e)) as (λ t. before (key d) (key e) ≡ t
+      → place key before same d (place key before same e xs) ≡ place key before same e (place key before same d xs)) [
+        | true ↦ λ b. place-swap d e xs b
+        | false ↦ λ late. sym (place-swap e d xs (order.total (key d) (key e) late differ))
       ] refl

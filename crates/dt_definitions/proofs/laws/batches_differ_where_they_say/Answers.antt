@@ -3,6 +3,6 @@ use Rattle.dt_definitions.proofs.laws.batches_differ_where_they_say.Goals as goa
 
 pub returns : goal.returns
 returns c = record {
-  lawful = batches_keep_law c.steps_keep_law.ensures.step;
+  lawful = batches_keep_law;
   differ = batches_differ;
 }

@@ -2,4 +2,4 @@ use Rattle.dt_definitions.proofs.Histories.{histories_are_lawful}
 use Rattle.dt_definitions.proofs.laws.histories_are_lawful.Goals as goal
 
 pub returns : goal.returns
-returns c = histories_are_lawful c.steps_keep_law.ensures.step c.steps_keep_law.ensures.empty
+returns c = histories_are_lawful
