@@ -11,7 +11,9 @@ pub mod LawfulChanges
 pub mod Repeated
 pub mod GraphChanges
 pub mod Subclasses
+pub mod ListMembers
 pub mod BelowChanges
+pub mod BelowSets
 pub mod Members
 pub mod DescendantLists
 pub mod AscendingSets
@@ -24,7 +26,5 @@ pub mod Effects
 pub mod ListsOfGraphs
 pub mod Needed
 pub mod Undone
-pub mod ListMembers
-pub mod BelowSets
 pub mod PlacedMembers
 pub mod SetSizes
