@@ -1,20 +1,7 @@
 -- The order of lists of classes: it is strict and total, and lists that are the same are equal.
-use Rattle.std.proofs.Common.{◌≡◌, ℕ, false, List, [], ◌∷◌, eqb, refl, arith, IsTrue}
-use Rattle.std.proofs.lemmas.Bool.{eqb-true, eq-eqb, and_parts}
+use Rattle.std.proofs.Common.{◌≡◌, ℕ, false, List, [], ◌∷◌, refl, arith, IsTrue}
 use Rattle.std.proofs.lemmas.Bool.Decides.{nat_tests}
 use Rattle.dt_definitions.specs.Program.{same_classes, are_classes_before}
-
-pub same-refl : (xs : List ℕ) → IsTrue (same_classes xs xs)
-same-refl [] = refl
-same-refl (x ∷ xs) = let e = eq-eqb x x refl in let r = same-refl xs in rw (e, r) refl
-
-pub same-equal : (xs ys : List ℕ) → IsTrue (same_classes xs ys) → xs ≡ ys
-same-equal [] [] s = refl
-same-equal [] (y ∷ ys) s = cc
-same-equal (x ∷ xs) [] s = cc
-same-equal (x ∷ xs) (y ∷ ys) s =
-    let p = and_parts (eqb x y) (same_classes xs ys) s in
-    let e = eqb-true x y p.0 in let r = same-equal xs ys p.1 in cc
 
 -- a list isn't before itself
 pub before-irrefl : (xs : List ℕ) → are_classes_before xs xs ≡ false

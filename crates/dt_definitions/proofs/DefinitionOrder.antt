@@ -6,14 +6,15 @@ use Rattle.dt_definitions.specs.Program.{Definition, same_classes, is_definition
 use Rattle.dt_graph.specs.InOrder.{StrictOrder}
 use Rattle.dt_graph.proofs.InOrder.{Ascends-place, Ascends-filter}
 use Rattle.dt_definitions.specs.Lawful.{AscendingDefinitions}
-use Rattle.dt_definitions.proofs.ClassOrder.{same-refl, same-equal, same-sym, before-irrefl, before-trans, before-total}
+use Rattle.dt_graph.proofs.SameLists.{same_list-self, same_list_equal}
+use Rattle.dt_definitions.proofs.ClassOrder.{same-sym, before-irrefl, before-trans, before-total}
 
 -- where it is the definition, the selector and the classes are equal
 pub is_definition-equal : (s : ℕ) (cs : List ℕ) (d : Definition)
     → IsTrue (is_definition s cs d) → (d.selector ≡ s) × (d.classes ≡ cs)
 is_definition-equal s cs d h =
     let p = and_parts (eqb d.selector s) (same_classes d.classes cs) h in
-    (eqb-true d.selector s p.0, same-equal d.classes cs p.1)
+    (eqb-true d.selector s p.0, same_list_equal d.classes cs p.1)
 
 -- the keys of definitions are in strict order
 pub key_order : StrictOrder is_key_before is_same_key
@@ -25,7 +26,7 @@ key_order = record {
   equal = λ a b s.
       let e = is_definition-equal a.selector a.classes (record { selector = b.selector; classes = b.classes; body = 0 }) s in
       rw (sym e.0, sym e.1) refl;
-  reflexive = λ a. let r = same-refl a.classes in grind (arith, nat_tests);
+  reflexive = λ a. let r = same_list-self a.classes in grind (arith, nat_tests);
 }
 
 -- the list ascends with one definition more, and with some left out

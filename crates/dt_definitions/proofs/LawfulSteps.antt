@@ -1,12 +1,11 @@
 -- The step of an edit keeps a program lawful.
 use Rattle.std.proofs.Common.{◌≡◌, ℕ, ◌<◌, true, false, not, List, [], ◌∷◌, length, filter, get_or, option_map, Option, Some, None, Ok, Err, Result, is_some, IsTrue, All, refl, sym, ap, subst, ◌∙◌, arith, eqb}
 use Rattle.std.specs.Option.{option_map_or}
-use Rattle.std.proofs.lemmas.Bool.{eq-eqb, eqb-true, ne_eqb, false≢true}
-use Rattle.std.proofs.lemmas.Bool.Decides.{nat_tests}
+use Rattle.std.proofs.lemmas.Bool.{eq-eqb, eqb-true, ne_eqb, or_right, false≢true}
 use Rattle.std.proofs.lemmas.List.Folds.{list_any_at}
 use Rattle.std.proofs.lemmas.List.Elements.{All-nil, All-cons, All-filter, All-weaker, filter_passes}
 use Rattle.dt_graph.specs.Refusal.{cause_if}
-use Rattle.dt_graph.specs.Graph.{Graph, has_number, is_live, place_number}
+use Rattle.dt_graph.specs.Graph.{Graph, has_number, is_live}
 use Rattle.dt_graph.specs.GraphChange.{add_cause, add_effect, drop_cause, drop_effect, link_cause, link_effect, unlink_effect, first_unknown}
 use Rattle.dt_graph.specs.Lawful.{LawfulGraph}
 use Rattle.dt_selectors.specs.Selectors.{Selector, arity_in, has_selector, place_selector, without_selector}
@@ -22,6 +21,7 @@ use Rattle.dt_definitions.specs.declared.why.ApplyFault.{ApplyFault}
 use Rattle.dt_definitions.proofs.AnswerLaws.{ok_has_no_cause, ok_alone_changes}
 use Rattle.dt_definitions.proofs.DefinitionOrder.{key_order, place-ascends, filter-ascends}
 use Rattle.dt_graph.proofs.InOrder.{All-place}
+use Rattle.dt_graph.proofs.LinkLists.{has_number-placed, has_number-kept}
 use Rattle.dt_graph.proofs.LawfulChanges as graph
 use Rattle.dt_selectors.proofs.LawfulChanges as selectors
 use Rattle.dt_selectors.proofs.Arities.{adding, dropping}
@@ -84,16 +84,6 @@ beside p ds d h = record { arity_fits = h.arity_fits; classes_live = h.classes_l
 place-all : (P : Definition → Type 0) (d : Definition) (ds : List Definition) → P d → All P ds → All P (place_definition d ds)
 place-all = All-place key_of is_key_before is_same_key key_order
 
--- what stays live
-live-placed : (class n : ℕ) (ns : List ℕ) → IsTrue (has_number ns n) → IsTrue (has_number (place_number class ns) n)
-live-placed class n [] h = absurd (false≢true h)
-live-placed class n (m ∷ ns) h = let r = live-placed class n ns in grind arith
-
-live-filtered : (class n : ℕ) (ns : List ℕ) → (n ≡ class → ⊥) → IsTrue (has_number ns n)
-    → IsTrue (has_number (filter (λ c. not (eqb c class)) ns) n)
-live-filtered class n [] ne h = absurd (false≢true h)
-live-filtered class n (m ∷ ns) ne h = let r = live-filtered class n ns ne in grind (arith, nat_tests)
-
 -- classes of which none is unknown are live
 all_live : (g : Graph) (classes : List ℕ) → first_unknown g classes ≡ None → All (λ class. IsTrue (is_live g class)) classes
 all_live g [] h = All-nil (λ class. IsTrue (is_live g class))
@@ -113,15 +103,15 @@ effect-lawful : (p : Program) (edit : Edit) → Lawful p → IsInRange edit → 
 effect-lawful p (AddClass class parents) l r h =
     graph_changed p (add_effect p.graph class parents) l
     (graph.add_keeps p.graph class parents l.graph r (none_mapped (add_cause p.graph class parents) (sym h)))
-    (λ c _ live. live-placed class c p.graph.classes live)
+    (λ c _ live. has_number-placed class p.graph.classes c ∙ or_right (eqb class c) (is_live p.graph c) live)
 effect-lawful p (DropClass class) l r h =
     let causes : List (Option Why) = option_map why_of (drop_cause p.graph class) ∷ cause_if (is_named p class) why.HasDefinitions ∷ [] in
     let n : NoCause causes = no_cause causes h in
     let unnamed = not_caused (is_named p class) why.HasDefinitions n.1.0 in
     graph_changed p (drop_effect p.graph class) l
     (graph.drop_keeps p.graph class l.graph (none_mapped (drop_cause p.graph class) n.0))
-    (λ c named live. live-filtered class c p.graph.classes
-    (λ e. false≢true (sym unnamed ∙ subst (λ k. is_named p k ≡ true) e named)) live)
+    (λ c named live. has_number-kept (λ k. not (eqb k class)) p.graph.classes c live
+    (ap not (ne_eqb c class (λ e. false≢true (sym unnamed ∙ subst (λ k. is_named p k ≡ true) e named)))))
 effect-lawful p (Link class parent) l r h =
     graph_changed p (link_effect p.graph class parent) l
     (graph.link_keeps p.graph class parent l.graph (none_mapped (link_cause p.graph class parent) (sym h)))

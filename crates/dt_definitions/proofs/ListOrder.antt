@@ -5,7 +5,8 @@ use Rattle.dt_graph.specs.InOrder.{StrictOrder, place, without}
 use Rattle.dt_definitions.specs.Program.{are_classes_before, same_classes, is_definition, place_definition, key_of, is_key_before, is_same_key}
 use Rattle.dt_definitions.specs.SelectorLists.{definition_of, with_selector, classes_at, are_same}
 use Rattle.dt_definitions.specs.declared.defined.Defined.{Defined}
-use Rattle.dt_definitions.proofs.ClassOrder.{same-refl, same-equal, same-sym, before-irrefl, before-trans, before-total}
+use Rattle.dt_graph.proofs.SameLists.{same_list-self, same_list_equal}
+use Rattle.dt_definitions.proofs.ClassOrder.{same-sym, before-irrefl, before-trans, before-total}
 use Rattle.dt_definitions.proofs.Searching.{map-place, map-without}
 
 pub class_order : StrictOrder are_classes_before are_same
@@ -13,8 +14,8 @@ class_order = record {
   transitive = before-trans;
   irreflexive = before-irrefl;
   total = λ a b p q. before-total a b p (same-sym a b ∙ q);
-  equal = λ a b s. sym (same-equal b a s);
-  reflexive = same-refl;
+  equal = λ a b s. sym (same_list_equal b a s);
+  reflexive = same_list-self;
 }
 
 -- within one selector the order is that of the classes

@@ -2,6 +2,7 @@
 use Rattle.std.specs.Prelude.{◌==◌, ℕ, Bool, false, true, ◌&&◌, ◌||◌, nat_lt, List, [], ◌∷◌, Option, filter, find}
 use Rattle.std.specs.Option.{option_map}
 use Rattle.dt_graph.specs.InOrder.{place}
+use Rattle.dt_graph.specs.SameLists.{same_list}
 use Rattle.dt_graph.specs.Graph.{Graph, empty_graph}
 use Rattle.dt_selectors.specs.Selectors.{Selector, arity_in}
 use Rattle.dt_definitions.specs.declared.definition_key.DefinitionKey.{DefinitionKey}
@@ -28,10 +29,7 @@ arity_of program selector = arity_in program.selectors selector
 
 -- whether the two lists are the same
 abbrev pub same_classes : List ℕ → List ℕ → Bool
-same_classes [] [] = true
-same_classes [] (y ∷ ys) = false
-same_classes (x ∷ xs) [] = false
-same_classes (x ∷ xs) (y ∷ ys) = (x == y) && same_classes xs ys
+same_classes xs ys = same_list xs ys
 
 -- whether the first list stands before the second: by the first place that differs, and a list before what it begins
 abbrev pub are_classes_before : List ℕ → List ℕ → Bool
