@@ -17,3 +17,4 @@ pub mod Begun
 pub mod Totals
 pub mod CellsAndRows
 pub mod MoreThan
+pub mod Counted

@@ -3,6 +3,7 @@ ghost use Rattle.dt_graph.specs.Graph.{has_number};
 ghost use Rattle.dt_selectors.specs.declared.limits.TheConstants.{SELECTORS};
 ghost use Rattle.dt_definitions.specs.Differing.{edited_classes};
 ghost use Rattle.dt_definitions.specs.Step.{step_batch};
+ghost use Rattle.dt_propagate.specs.Counted.{CountsOn};
 ghost use Rattle.dt_propagate.specs.Differences.{AreDifferences};
 ghost use Rattle.dt_propagate.specs.GoneThrough.{all_arities, told_of_all};
 ghost use Rattle.dt_propagate.specs.Marks.{DifferNear, is_below_in};
@@ -10,12 +11,12 @@ ghost use Rattle.dt_propagate.specs.Walk.{told_change};
 ghost use Rattle.std.specs.List.{list_any};
 
 use crate::edited::{edited_classes, redefined_keys};
+use crate::found::Found;
 use crate::marks::below_edited;
 use crate::touched::touch_all;
 use crate::walk::push_all;
 use dt_definitions::{Batch, DefinitionKey, Program, batches_differ_where_they_say};
 use dt_graph::{ClassSet, NoMemory, Steps, others_stay_below};
-use dt_scratch::Change;
 use dt_selectors::SELECTORS;
 use std::alloc::Global;
 use std::sync::ledger::Ledger;
@@ -44,10 +45,11 @@ fn push_touched<L: Ledger>(
     keys: &[DefinitionKey],
     edited: &ClassSet,
     steps: &mut Steps<L>,
-    out: &mut Vec<Change>,
+    out: &mut Found,
 ) -> Result<(), NoMemory>
     requires { DifferNear old.now new.now keys.now edited.now }
-    ensures { OnOk result (out.new.items ≡ out.old.items ++ told_of_all (told_change old.now new.now) all_arities) }
+    ensures told { OnOk result (out.new.changes.items ≡ out.old.changes.items ++ told_of_all (told_change old.now new.now) all_arities) }
+    ensures counted { OnOk result (CountsOn steps.old steps.new out.old.counted out.new.counted) }
 {
     let mut touched = no_flags();
     touch_all(old, new, keys, edited, &mut touched);
@@ -61,9 +63,10 @@ pub(crate) fn differences<L: Ledger>(
     batch: &Batch,
     new: &Program,
     steps: &mut Steps<L>,
-) -> Result<Vec<Change>, NoMemory>
+) -> Result<Found, NoMemory>
     requires { step_batch old.now batch.now ≡ Ok new.now }
-    ensures { IfOk result (λ changes. AreDifferences old.now new.now changes.items) }
+    ensures differences { IfOk result (λ found. AreDifferences old.now new.now found.changes.items) }
+    ensures counted { IfOk result (λ found. CountsOn steps.old steps.new 0 found.counted) }
 {
     old.law();
     new.law();
@@ -71,7 +74,10 @@ pub(crate) fn differences<L: Ledger>(
     others_stay_below();
     let edited = edited_set(alloc, old, batch, new)?;
     let keys = redefined_keys(alloc, batch)?;
-    let mut changes = Vec::new(alloc);
-    push_touched(old, new, &keys, &edited, steps, &mut changes)?;
-    Ok(changes)
+    let mut found = Found {
+        changes: Vec::new(alloc),
+        counted: 0,
+    };
+    push_touched(old, new, &keys, &edited, steps, &mut found)?;
+    Ok(found)
 }

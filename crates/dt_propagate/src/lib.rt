@@ -6,6 +6,7 @@ mod change_fault;
 mod count;
 mod differences;
 mod edited;
+mod found;
 mod full;
 mod laws;
 mod limits;
@@ -20,4 +21,4 @@ pub use change_fault::ChangeFault;
 
 pub use laws::{boxes_hold, candidates_are_held, finer_marks_serve, understood_is_held};
 pub use limits::{CELLS, ROWS};
-pub use what_changes::changes;
+pub use what_changes::{changes, changes_counted};

@@ -1,7 +1,9 @@
 ghost use Rattle.std.specs.Prelude.{◌≡◌, ◌≢◌, ◌+◌, ◌<◌, ◌≤◌, ◌++◌, ◌∷◌, [], length, OnOk};
 ghost use Rattle.dt_scratch.specs.Resolve.{cell, cell_of};
+ghost use Rattle.dt_propagate.specs.Counted.{CountsOn};
 ghost use Rattle.dt_propagate.specs.Walk.{told_change};
 
+use crate::found::Found;
 use arrayvec::ArrayVec;
 use dt_definitions::Program;
 use dt_graph::{ClassNo, NoMemory, Steps};
@@ -67,7 +69,7 @@ fn push_if_differs<L: Ledger>(
 
 // What is told of the query goes to the end.
 #[tactic(auto, using(crate::proofs::Leaf::is_told))]
-pub(crate) fn push_told<L: Ledger>(
+fn push_change<L: Ledger>(
     old: &Program,
     new: &Program,
     query: Query,
@@ -78,4 +80,19 @@ pub(crate) fn push_told<L: Ledger>(
     ensures steps { steps.new ≡ steps.old + 2 }
 {
     push_if_differs(old, new, query, steps, out)
+}
+
+// What is told of the query goes to the end, and its steps are counted.
+pub(crate) fn push_told<L: Ledger>(
+    old: &Program,
+    new: &Program,
+    query: Query,
+    steps: &mut Steps<L>,
+    out: &mut Found,
+) -> Result<(), NoMemory>
+    ensures told { OnOk result (out.new.changes.items ≡ out.old.changes.items ++ told_change old.now new.now query) }
+    ensures counted { OnOk result (CountsOn steps.old steps.new out.old.counted out.new.counted) }
+{
+    out.counted = out.counted.saturating_add(2);
+    push_change(old, new, query, steps, &mut out.changes)
 }

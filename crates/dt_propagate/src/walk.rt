@@ -1,17 +1,18 @@
 ghost use Rattle.std.specs.Prelude.{◌≡◌, ℕ, ◌+◌, ◌<◌, ◌≤◌, ◌||◌, ◌++◌, [], length, OnOk};
 ghost use Rattle.dt_graph.specs.Graph.{has_number};
+ghost use Rattle.dt_propagate.specs.Counted.{CountsOn};
 ghost use Rattle.dt_propagate.specs.GoneThrough.{all_arities, told_after, told_of, told_of_all};
 ghost use Rattle.dt_propagate.specs.Marks.{DifferNear};
 ghost use Rattle.dt_propagate.specs.Touched.{TouchAll, takes};
 ghost use Rattle.dt_propagate.specs.Walk.{GoesThroughAll, goes_next, goes_on_in, told_change};
 
+use crate::found::Found;
 use crate::marks::nears;
 use crate::near::{Near, insert_defined, insert_redefined};
 use crate::told::{push_told, query_at};
 use arrayvec::ArrayVec;
 use dt_definitions::{DefinitionKey, Program};
 use dt_graph::{ClassNo, ClassSet, NoMemory, Steps};
-use dt_scratch::Change;
 use dt_selectors::{SELECTORS, SelNo};
 use std::sync::ledger::Ledger;
 
@@ -59,13 +60,14 @@ fn push_after<L: Ledger>(
     more: usize,
     prefix: &mut ArrayVec<ClassNo, 4>,
     steps: &mut Steps<L>,
-    out: &mut Vec<Change>,
+    out: &mut Found,
 ) -> Result<(), NoMemory>
     requires all { GoesThroughAll old.now new.now selector keys.now nears.now }
     requires some { 0 < length prefix.old.items + more }
     requires room { length prefix.old.items + more ≤ 4 }
-    ensures told { OnOk result (out.new.items ≡ out.old.items
+    ensures told { OnOk result (out.new.changes.items ≡ out.old.changes.items
         ++ told_after (told_change old.now new.now) selector more prefix.old.items) }
+    ensures counted { OnOk result (CountsOn steps.old steps.new out.old.counted out.new.counted) }
     ensures prefix { OnOk result (prefix.new.items ≡ prefix.old.items) }
 {
     if more == 0 {
@@ -101,14 +103,16 @@ fn push_with_arity<L: Ledger>(
     edited: &ClassSet,
     arity: usize,
     steps: &mut Steps<L>,
-    out: &mut Vec<Change>,
+    out: &mut Found,
 ) -> Result<(), NoMemory>
     requires near { DifferNear old.now new.now keys.now edited.now }
     requires some { 0 < arity }
     requires few { arity ≤ 4 }
-    ensures told { OnOk result (out.new.items ≡ out.old.items
+    ensures told { OnOk result (out.new.changes.items ≡ out.old.changes.items
         ++ told_after (told_change old.now new.now) selector arity []) }
+    ensures counted { OnOk result (CountsOn steps.old steps.new out.old.counted out.new.counted) }
 {
+    out.law();
     if !takes(old, selector, arity) && !takes(new, selector, arity) {
         return Ok(());
     }
@@ -125,10 +129,11 @@ fn push_of<L: Ledger>(
     keys: &[DefinitionKey],
     edited: &ClassSet,
     steps: &mut Steps<L>,
-    out: &mut Vec<Change>,
+    out: &mut Found,
 ) -> Result<(), NoMemory>
     requires near { DifferNear old.now new.now keys.now edited.now }
-    ensures told { OnOk result (out.new.items ≡ out.old.items ++ told_of (told_change old.now new.now) all_arities selector) }
+    ensures told { OnOk result (out.new.changes.items ≡ out.old.changes.items ++ told_of (told_change old.now new.now) all_arities selector) }
+    ensures counted { OnOk result (CountsOn steps.old steps.new out.old.counted out.new.counted) }
 {
     for arity in 1..5 {
         push_with_arity(old, new, selector, keys, edited, arity, steps, out)?;
@@ -145,12 +150,14 @@ fn push_if_touched<L: Ledger>(
     edited: &ClassSet,
     touched: &[bool],
     steps: &mut Steps<L>,
-    out: &mut Vec<Change>,
+    out: &mut Found,
 ) -> Result<(), NoMemory>
     requires near { DifferNear old.now new.now keys.now edited.now }
     requires touched { TouchAll old.now new.now touched.now }
-    ensures told { OnOk result (out.new.items ≡ out.old.items ++ told_of (told_change old.now new.now) all_arities selector) }
+    ensures told { OnOk result (out.new.changes.items ≡ out.old.changes.items ++ told_of (told_change old.now new.now) all_arities selector) }
+    ensures counted { OnOk result (CountsOn steps.old steps.new out.old.counted out.new.counted) }
 {
+    out.law();
     if !touched[usize::from(selector.number())] {
         return Ok(());
     }
@@ -165,11 +172,12 @@ pub(crate) fn push_all<L: Ledger>(
     edited: &ClassSet,
     touched: &[bool],
     steps: &mut Steps<L>,
-    out: &mut Vec<Change>,
+    out: &mut Found,
 ) -> Result<(), NoMemory>
     requires near { DifferNear old.now new.now keys.now edited.now }
     requires touched { TouchAll old.now new.now touched.now }
-    ensures told { OnOk result (out.new.items ≡ out.old.items ++ told_of_all (told_change old.now new.now) all_arities) }
+    ensures told { OnOk result (out.new.changes.items ≡ out.old.changes.items ++ told_of_all (told_change old.now new.now) all_arities) }
+    ensures counted { OnOk result (CountsOn steps.old steps.new out.old.counted out.new.counted) }
 {
     for number in 0..SELECTORS {
         let Some(selector) = SelNo::new(number) else {

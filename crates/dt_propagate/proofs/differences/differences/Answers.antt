@@ -17,9 +17,9 @@ push_touched-requires g c =
     (differ_near old new (redefined_keys batch) (edited_classes batch) c.in_ok-edited.edited c.law.ensures.lawful c.law-2.ensures.lawful
     c.others_stay_below.ensures.others (c.batches_differ_where_they_say.ensures.differ old new batch c.requires) c.in_ok-edited.ensures)
 
-pub returns : goal.returns
-returns g c =
+pub returns-clause-differences : goal.returns-clause-differences
+returns-clause-differences g c =
     let old = c.args.old.now in
     let new = c.args.new.now in
-    differences_are old new c.push_touched.new.out.items c.law.ensures.lawful c.law-2.ensures.lawful
-    (c.in_ok-push_touched.ensures ∙ ap (λ xs. xs ++ told_of_all (told_change old new) all_arities) c.new-changes.ensures.items)
+    differences_are old new c.push_touched.new.out.changes.items c.law.ensures.lawful c.law-2.ensures.lawful
+    (c.in_ok-push_touched.ensures.told ∙ ap (λ xs. xs ++ told_of_all (told_change old new) all_arities) c.new.ensures.items)

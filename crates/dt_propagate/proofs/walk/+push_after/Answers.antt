@@ -22,5 +22,5 @@ returns-clause-told g t c =
     (λ class low not. nothing_told old new selector keys nears c.requires.all (c.args.more - 1) prefix class
     (ap (λ p. goes_next old new selector keys nears p class) (sym c.deref-2.ensures.0) ∙ sym (c.next_classes-next.ensures class) ∙ not))
     c.if-more-eq0.false in
-    c.loop-class.invariant.told ∙ ap (λ xs. c.args.out.now.items ++ in_turn f xs) (take_all c.loop-class.class-index all c.loop-class-test.false ∙ is)
-    ∙ ap (λ xs. c.args.out.now.items ++ xs) (sym whole)
+    c.loop-class.invariant.told ∙ ap (λ xs. c.args.out.now.changes.items ++ in_turn f xs) (take_all c.loop-class.class-index all c.loop-class-test.false ∙ is)
+    ∙ ap (λ xs. c.args.out.now.changes.items ++ xs) (sym whole)

@@ -1,5 +1,6 @@
 use Rattle.std.proofs.Common.{◌≡◌, ◌-◌, take, ◌∷◌, [], ◌++◌}
 use Rattle.dt_propagate.specs.Boxes.{in_turn}
+use Rattle.dt_propagate.specs.Counted.{CountsOn}
 use Rattle.dt_propagate.specs.GoneThrough.{told_after}
 use Rattle.dt_propagate.specs.Walk.{told_change}
 use Rattle.dt_propagate.proofs.walk.+push_after.Given as goal
@@ -10,6 +11,7 @@ decreases-push_after g l = l.more
 abbrev pub invariant-loop-class : goal.invariant-loop-class
 invariant-loop-class g l = record {
   prefix : l.prefix.items ≡ l.fn.prefix.items;
-  told : l.out.items ≡ l.fn.out.items
+  told : l.out.changes.items ≡ l.fn.out.changes.items
       ++ in_turn (λ c. told_after (told_change l.fn.old l.fn.new) l.fn.selector (l.fn.more - 1) (l.fn.prefix.items ++ c ∷ [])) (take l.class-index l.class-items);
+  counted : CountsOn l.fn.steps l.steps l.fn.out.counted l.out.counted;
 }

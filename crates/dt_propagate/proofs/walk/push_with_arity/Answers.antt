@@ -1,4 +1,5 @@
 use Rattle.std.proofs.Common.{sym, ap, ◌∙◌, ◌++◌, append-nil}
+use Rattle.dt_propagate.proofs.Counted.{counts_none}
 use Rattle.dt_propagate.proofs.Cover.{goes_through_all}
 use Rattle.dt_propagate.proofs.Touching.{none_of_arity}
 use Rattle.dt_propagate.proofs.walk.push_with_arity.Goals as goal
@@ -12,4 +13,4 @@ pub returns-then-not-takes-2 : goal.returns-then-not-takes-2
 returns-then-not-takes-2 g c =
     let none = none_of_arity c.args.old.now c.args.new.now c.args.selector c.args.arity c.requires.near.old_lawful c.requires.near.new_lawful
     (sym c.takes.ensures ∙ c.if-not-takes.true) (sym c.takes-then-not-takes.ensures ∙ c.if-not-takes-2.true) in
-    record { told = sym (ap (λ xs. c.args.out.now.items ++ xs) none ∙ append-nil c.args.out.now.items) }
+    record { counted = counts_none c.args.steps.now c.args.out.now.counted c.law.ensures; told = sym (ap (λ xs. c.args.out.now.changes.items ++ xs) none ∙ append-nil c.args.out.now.changes.items) }
