@@ -74,10 +74,10 @@ more_to program selector k t = by_option (arity_of program selector) refl
 some_same : (a b : ℕ) → Some a ≡ Some b → a ≡ b
 some_same a b same = cc
 
-abbrev itself : Query → Query
+abbrev pub itself : Query → Query
 itself query = query
 
-map_itself : (xs : List Query) → map itself xs ≡ xs
+pub map_itself : (xs : List Query) → map itself xs ≡ xs
 map_itself [] = refl
 map_itself (x ∷ xs) = ap (λ ys. x ∷ ys) (map_itself xs)
 
@@ -118,13 +118,13 @@ module _ (program : Program) (lawful : Lawful program) where
       (within_is program lawful query.classes d.0.classes at.1 ∙ begins_below links query.classes d.0.classes d.2 same))
 
   -- the numbers of a query that is understood
-  record InRange (query : Query) : Type 0 where
-    selector : query.selector < SELECTORS
-    some : 0 < length query.classes
-    few : length query.classes ≤ 4
-    classes : All (λ class. class < CLASSES) query.classes
+  pub record InRange (query : Query) : Type 0 where
+    pub selector : query.selector < SELECTORS
+    pub some : 0 < length query.classes
+    pub few : length query.classes ≤ 4
+    pub classes : All (λ class. class < CLASSES) query.classes
 
-  in_range : (query : Query) → Understands program query → InRange query
+  pub in_range : (query : Query) → Understands program query → InRange query
   in_range query understood =
       let is = (understood_cells program lawful query).0 understood in
       let range = live_in_range program.selectors lawful.selectors query.selector (length query.classes) is.arity_fits in
@@ -136,12 +136,12 @@ module _ (program : Program) (lawful : Lawful program) where
             (λ class live. live_classes_are_in_range program lawful class live) query.classes is.classes_live;
       }
 
-  cell_once : TellsOnce itself (told_cell program)
+  pub cell_once : TellsOnce itself (told_cell program)
   cell_once query = by_cases (takes program query.selector (length query.classes) && is_begun_query program query)
       (λ t. inr (query, rw t refl, refl))
       (λ f. inl (rw f refl))
 
-  cell_sound : (query x : Query) → In (told_cell program query) x → Understands program query
+  pub cell_sound : (query x : Query) → In (told_cell program query) x → Understands program query
   cell_sound query x i = by_cases (takes program query.selector (length query.classes) && is_begun_query program query)
       (λ t. begins_cell query t)
       (λ f. let j : In {T = Query} [] x = rw f at i in absurd j)

@@ -104,7 +104,7 @@ module _ {T : Type 0} (key : T → Query) where
       append_each (f c) (in_turn f cs) (each c) (turns_each f each apart cs (ascending_tail c cs h))
       (λ x y i j. let t = In-from_turn f cs y j in apart c t.0 x y (first_lower c cs h t.0 t.1) i t.2)
 
-  ascending : (xs : List T) → EachBefore xs → Ascending query_order (map key xs)
+  pub ascending : (xs : List T) → EachBefore xs → Ascending query_order (map key xs)
   ascending [] h = tt
   ascending (a ∷ []) h = tt
   ascending (a ∷ b ∷ xs) h = (All-head (λ b. IsBefore (key a) (key b)) b xs h.0, ascending (b ∷ xs) h.1)
@@ -183,7 +183,7 @@ module _ {T : Type 0} (key : T → Query) where
         all_classes classes_ascend
 
     module _ (arities : List ℕ) (arities_ascend : AscendingNumbers arities) where
-      of_each : (selector : ℕ) → EachBefore (told_of told arities selector)
+      pub of_each : (selector : ℕ) → EachBefore (told_of told arities selector)
       of_each selector = turns_each (λ arity. told_after told selector arity []) (λ arity. after_each selector arity [])
           (λ c d x y l i j.
           let a = key_after selector c [] x i in

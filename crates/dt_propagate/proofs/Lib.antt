@@ -18,3 +18,4 @@ pub mod Totals
 pub mod CellsAndRows
 pub mod MoreThan
 pub mod Counted
+pub mod BoundSteps

@@ -13,7 +13,7 @@ use Rattle.dt_scratch.specs.Query.{Query, arity_of_query, query_order}
 use Rattle.dt_propagate.specs.Begun.{up_to}
 use Rattle.dt_propagate.specs.Counts.{NoneTwice}
 use Rattle.dt_propagate.specs.Differences.{Ascending, AreAll, MoreThan, is_less}
-use Rattle.dt_propagate.proofs.Begun.{up_to_some, up_to_none}
+use Rattle.dt_propagate.proofs.Begun.{up_to_some, up_to_none, up_to_few}
 use Rattle.dt_propagate.proofs.Counts.{parts_are_no_longer}
 
 query_total : IsTotalOrder query_order
@@ -36,7 +36,7 @@ less_than_all a (b ∷ xs) h x (inl e) = subst (λ y. query_order a y ≡ Less) 
 less_than_all a (b ∷ xs) h x (inr i) =
     query_total.trans a b x (is_less-true (query_order a b) h.0) (less_than_all b xs h.1 x i)
 
-none_twice : (xs : List Query) → Ascending query_order xs → NoneTwice xs
+pub none_twice : (xs : List Query) → Ascending query_order xs → NoneTwice xs
 none_twice [] h = tt
 none_twice (a ∷ xs) h = (
   λ there.
@@ -56,3 +56,6 @@ module _ (Holds : Query → Type 0) (all : List Query) (are : AreAll query_order
       let le = parts_are_no_longer more.0 all (none_twice more.0 more.1)
       (λ x there. are.none_missing x (All-In Holds more.0 x more.2 (In-from_Contains more.0 x there))) in
       absurd (omega (arith, few, le, more.3))
+
+  pub no_more_if_few : length all ≤ most → MoreThan query_order Holds most → ⊥
+  no_more_if_few few = no_more_than (length all) (up_to_few most (length all) few)

@@ -10,6 +10,7 @@ pub mod Walk
 pub mod Marks
 pub mod Touched
 pub mod Begun
+pub mod Bounds
 pub mod Counted
 pub mod Boxes
 pub mod BoxLaws

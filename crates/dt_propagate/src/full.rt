@@ -1,6 +1,7 @@
 ghost use Rattle.std.specs.Prelude.{◌≡◌, false, IfErr, IsTrue, OnOk};
 ghost use Rattle.dt_propagate.specs.Limits.{HasMoreCells, HasMoreRows, IsFullBy, IsWithinLimits};
 
+use crate::bound::cells_bound;
 use crate::change_fault::ChangeFault;
 use crate::count::{count_cells, count_rows};
 use crate::limits::{CELLS, ROWS};
@@ -12,6 +13,9 @@ fn has_more_cells(program: &Program) -> bool
     ensures few { result ≡ false → HasMoreCells program.now → ⊥ }
 {
     program.law();
+    if cells_bound(program) <= u64::from(CELLS) {
+        return false;
+    }
     match count_cells(program, CELLS) {
         Some(_count) => false,
         None => true,

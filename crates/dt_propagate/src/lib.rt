@@ -1,6 +1,7 @@
 //! What an edit changes: the queries whose cells differ between two programs.
 #![tactic(auto)]
 
+mod bound;
 mod change_fault;
 
 mod count;
