@@ -1,10 +1,9 @@
 -- What is told of all queries are the differences.
-use Rattle.std.proofs.Common.{◌≡◌, ◌≢◌, ℕ, ◌<◌, IsTrue, List, [], ◌∷◌, length, Some, ⊎_elim, refl, sym, ap, subst, ◌∙◌, arith, All}
+use Rattle.std.proofs.Common.{◌≡◌, ◌≢◌, ◌<◌, IsTrue, List, length, ⊎_elim, refl, sym, subst}
 use Rattle.std.proofs.lemmas.List.Elements.{All-weaker}
-use Rattle.dt_graph.specs.Graph.{has_number, is_live}
+use Rattle.dt_graph.specs.Graph.{is_live}
 use Rattle.dt_graph.specs.declared.limits.TheConstants.{CLASSES}
-use Rattle.dt_graph.proofs.ListMembers.{In, All-from_In}
-use Rattle.dt_selectors.specs.declared.limits.TheConstants.{SELECTORS}
+use Rattle.dt_graph.proofs.ListMembers.{All-from_In}
 use Rattle.dt_selectors.proofs.Arities.{live_in_range}
 use Rattle.dt_definitions.specs.Program.{Program}
 use Rattle.dt_definitions.specs.Lawful.{Lawful}

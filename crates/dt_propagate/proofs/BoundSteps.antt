@@ -1,7 +1,5 @@
 -- A selector has no more cells than its definitions by themselves.
-use Rattle.std.proofs.Common.{◌≡◌, ◌==◌, ℕ, zero, suc, ◌+◌, ◌*◌, ◌<◌, ◌≤◌, Bool, true, false, ◌&&◌, IsTrue, List, [], ◌∷◌, ◌++◌, length, map, take, get_or, inl, inr, refl, sym, ap, subst, ◌∙◌, arith, All}
-use Rattle.std.specs.List.{Contains}
-use Rattle.std.proofs.lemmas.Bool.{and_parts, and_from}
+use Rattle.std.proofs.Common.{◌≡◌, ℕ, zero, suc, ◌+◌, ◌<◌, ◌≤◌, IsTrue, List, [], ◌∷◌, length, map, take, get_or, refl, sym, ap, subst, ◌∙◌, arith}
 use Rattle.std.proofs.lemmas.List.Elements.{All-weaker}
 use Rattle.dt_graph.specs.Graph.{Graph, has_number}
 use Rattle.dt_graph.specs.Descendants.{descendants}
@@ -30,7 +28,7 @@ use Rattle.dt_definitions.specs.declared.defined.Defined.{Defined}
 use Rattle.dt_scratch.specs.Query.{Query, query_order}
 use Rattle.dt_propagate.specs.Begun.{told_cell}
 use Rattle.dt_propagate.specs.Bounds.{boxes_below}
-use Rattle.dt_propagate.specs.Boxes.{Box, in_turn, within, size, sum_of_sizes}
+use Rattle.dt_propagate.specs.Boxes.{in_turn, within, size, sum_of_sizes}
 use Rattle.dt_propagate.specs.Counts.{boxes_of}
 use Rattle.dt_propagate.specs.GoneThrough.{all_arities, all_classes, told_after, told_of}
 

@@ -1,8 +1,6 @@
 -- The cells and rows that are counted are those of the program.
-use Rattle.std.proofs.Common.{◌≡◌, ◌≢◌, ◌==◌, ℕ, zero, suc, ◌+◌, ◌<◌, ◌≤◌, Bool, true, false, ◌&&◌, IsTrue, List, [], ◌∷◌, ◌++◌, length, map, Option, None, Some, inl, inr, refl, sym, ap, subst, ◌∙◌, arith, All, eqb-true, eq-eqb}
+use Rattle.std.proofs.Common.{◌≡◌, ◌≢◌, ◌==◌, ℕ, suc, ◌<◌, ◌≤◌, true, false, ◌&&◌, IsTrue, List, [], ◌∷◌, ◌++◌, length, map, Option, None, Some, inl, inr, refl, sym, ap, subst, ◌∙◌, arith, All, eqb-true, eq-eqb}
 use Rattle.std.specs.Prelude.{nat_lt}
-use Rattle.std.specs.Option.{option_map_or}
-use Rattle.std.specs.List.{Contains, list_any}
 use Rattle.std.proofs.lemmas.Bool.{false≢true, and_parts, and_from}
 use Rattle.std.proofs.lemmas.Bool.Decides.{nat_tests}
 use Rattle.std.proofs.lemmas.List.Elements.{All-nil, All-cons, All-head, All-tail, All-weaker}
@@ -29,7 +27,7 @@ use Rattle.dt_propagate.specs.Touched.{takes}
 use Rattle.dt_propagate.specs.Understood.{Understands, IsRow, gone_on}
 use Rattle.dt_propagate.proofs.BoxSizes.{length-both}
 use Rattle.dt_propagate.proofs.Counts.{cone_has, own, within_is, held_is, begun_is, understood_is_held, rows_are_begun}
-use Rattle.dt_propagate.proofs.GoneThrough.{TellsOnce, IsGoneThrough, told_are_all, arities_ascend, arity_listed}
+use Rattle.dt_propagate.proofs.GoneThrough.{TellsOnce, told_are_all, arities_ascend, arity_listed}
 
 -- ---- what begins, and what is below
 

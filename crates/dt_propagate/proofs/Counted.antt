@@ -1,6 +1,5 @@
 -- Counts that go on.
-use Rattle.std.proofs.Common.{◌≡◌, ℕ, ◌+◌, ◌-◌, ◌≤◌, arith}
-use Rattle.std.specs.Prelude.{min}
+use Rattle.std.proofs.Common.{ℕ, ◌≤◌, arith}
 use Rattle.dt_propagate.specs.Counted.{CountsOn, greatest}
 
 pub counts_further : (a b c counted more most : ℕ) → CountsOn a b counted more → CountsOn b c more most → CountsOn a c counted most

@@ -1,22 +1,20 @@
 -- By marks that tell, each class of a query whose cells differ goes on from those before it.
-use Rattle.std.proofs.Common.{◌≡◌, ◌≢◌, ◌==◌, ℕ, zero, suc, ◌+◌, ◌<◌, ◌≤◌, Bool, true, false, ◌&&◌, ◌||◌, IsTrue, List, [], ◌∷◌, ◌++◌, length, Some, inl, inr, ◌⊎◌, ⊎_elim, refl, sym, ap, subst, ◌∙◌, arith, All, eqb-true, eq-eqb}
-use Rattle.std.specs.List.{Contains, list_any}
-use Rattle.std.proofs.lemmas.Bool.{false≢true, and_parts, and_from, or_cases, or_left, or_right, or_parts}
+use Rattle.std.proofs.Common.{◌≡◌, ◌==◌, ℕ, zero, suc, ◌+◌, ◌<◌, ◌≤◌, Bool, true, false, ◌&&◌, ◌||◌, IsTrue, List, [], ◌∷◌, ◌++◌, length, ⊎_elim, refl, sym, ap, subst, ◌∙◌, arith, eqb-true, eq-eqb}
+use Rattle.std.proofs.lemmas.Bool.{false≢true, and_parts, and_from, or_cases, or_left, or_right}
 use Rattle.dt_graph.specs.Graph.{Link, has_number}
 use Rattle.dt_graph.specs.Below.{is_below}
-use Rattle.dt_graph.proofs.ListMembers.{by_cases, any_from_In, In, In-from_any, In-filter, In-from_filter, In-from_Contains, All-In}
+use Rattle.dt_graph.proofs.ListMembers.{by_cases, any_from_In, In, In-from_any, In-filter, In-from_filter, In-from_Contains}
 use Rattle.dt_selectors.proofs.Arities.{live_in_range}
 use Rattle.dt_definitions.specs.Program.{Definition, Program, definitions_of, is_definition, same_classes}
-use Rattle.dt_definitions.specs.Lawful.{Lawful, LawfulDefinition}
+use Rattle.dt_definitions.specs.Lawful.{Lawful}
 use Rattle.dt_definitions.specs.Differing.{is_at_any}
 use Rattle.dt_definitions.specs.declared.definition_key.DefinitionKey.{DefinitionKey}
 use Rattle.dt_definitions.proofs.ClassOrder.{same-equal}
 use Rattle.dt_scratch.specs.Query.{Query}
-use Rattle.dt_scratch.specs.Resolve.{are_below, applicable, cell}
-use Rattle.dt_propagate.specs.Differences.{Differs}
+use Rattle.dt_scratch.specs.Resolve.{are_below, applicable}
 use Rattle.dt_propagate.specs.FinerMarks.{is_marked, are_named, NamesAll, MarksTell, is_marked_candidate}
-use Rattle.dt_propagate.specs.Marks.{has_at, names_at, is_named_at, is_below_in, DifferNear, NearTells, NearsTell}
-use Rattle.dt_propagate.specs.Walk.{is_any_above, goes_on, goes_on_defined, goes_on_redefined, goes_on_in, goes_next, GoesThroughAll}
+use Rattle.dt_propagate.specs.Marks.{has_at, names_at, is_named_at, DifferNear, NearsTell}
+use Rattle.dt_propagate.specs.Walk.{is_any_above, goes_on, goes_on_defined, goes_on_redefined, goes_on_in, GoesThroughAll}
 use Rattle.dt_propagate.specs.declared.near.Near.{Near}
 use Rattle.dt_propagate.proofs.Counts.{own}
 use Rattle.dt_propagate.proofs.FinerMarks.{finer_marks_serve}

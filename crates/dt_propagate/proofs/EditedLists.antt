@@ -1,8 +1,7 @@
 -- The classes and keys that the edits of a batch name, edit by edit.
-use Rattle.std.proofs.Common.{◌≡◌, ℕ, zero, suc, ◌+◌, List, [], ◌∷◌, ◌++◌, take, Option, None, Some, refl, sym, ap, ◌∙◌, arith, append_assoc, append-nil}
+use Rattle.std.proofs.Common.{◌≡◌, ℕ, zero, suc, ◌+◌, List, [], ◌∷◌, ◌++◌, take, Some, sym, ap, ◌∙◌, arith, append_assoc, append-nil}
 use Rattle.std.specs.Prelude.{slice_get}
 use Rattle.dt_definitions.specs.declared.edit.Edit.{Edit}
-use Rattle.dt_definitions.specs.declared.definition_key.DefinitionKey.{DefinitionKey}
 use Rattle.dt_definitions.specs.Differing.{edited_by, edited_classes, redefined_by, redefined_keys}
 
 some_same : {T : Type 0} (a b : T) → Some a ≡ Some b → a ≡ b

@@ -1,5 +1,5 @@
 -- Flags of which none is set.
-use Rattle.std.proofs.Common.{◌≡◌, ℕ, zero, suc, Bool, false, List, [], ◌∷◌, get_or, replicate, refl}
+use Rattle.std.proofs.Common.{◌≡◌, ℕ, zero, suc, false, get_or, replicate, refl}
 
 pub none_set : (n i : ℕ) → get_or (replicate n false) i false ≡ false
 none_set zero i = refl

@@ -1,5 +1,5 @@
 -- Marks for each position: what the definitions of a selector name there.
-use Rattle.std.proofs.Common.{◌≡◌, ◌==◌, ℕ, zero, suc, ◌<◌, ◌≤◌, Bool, true, false, ◌&&◌, ◌||◌, IsTrue, List, [], ◌∷◌, length, get_or, refl, sym, ap, ◌∙◌, arith}
+use Rattle.std.proofs.Common.{◌≡◌, ◌==◌, ℕ, zero, suc, ◌<◌, ◌≤◌, Bool, false, ◌&&◌, ◌||◌, IsTrue, List, [], ◌∷◌, length, get_or, refl, sym, ap, ◌∙◌, arith}
 use Rattle.std.specs.List.{list_any}
 use Rattle.std.proofs.lemmas.Bool.{false≢true, or_parts, and_from}
 use Rattle.dt_graph.specs.Graph.{has_number}
@@ -39,9 +39,9 @@ module _ (old new : Program) (selector position : ℕ) (keys : List DefinitionKe
     (near : DifferNear old new keys edited)
     (named_is : (n : ℕ) → has_number named n ≡ is_named_at old new selector position n)
     (changed_is : (low high : ℕ) → IsTrue (has_number edited low) → has_number changed low ≡ false → IsTrue (has_number named high) →
-      is_below old.graph.links low high ≡ is_below new.graph.links low high)
+    is_below old.graph.links low high ≡ is_below new.graph.links low high)
     (marked_is : (n : ℕ) → has_number marked n
-      ≡ (has_number changed n || list_any (λ class. is_below old.graph.links n class && has_number named class) changed))
+    ≡ (has_number changed n || list_any (λ class. is_below old.graph.links n class && has_number named class) changed))
     (above_is : (n : ℕ) → has_number above n ≡ list_any (λ class. is_below_in old.graph.links new.graph.links class n) marked) where
   stays : (low high : ℕ) → has_number changed low ≡ false → IsTrue (has_number named high) →
       is_below old.graph.links low high ≡ is_below new.graph.links low high

@@ -1,14 +1,11 @@
 -- Whether it holds of more than so many, by a list of all.
-use Rattle.std.proofs.Common.{◌≡◌, ◌≢◌, ℕ, ◌<◌, ◌≤◌, Bool, true, false, IsTrue, List, [], ◌∷◌, length, Option, None, Some, inl, inr, refl, sym, subst, ◌∙◌, arith, All}
+use Rattle.std.proofs.Common.{◌≡◌, ℕ, ◌≤◌, true, List, [], ◌∷◌, length, None, Some, inl, inr, refl, sym, subst, ◌∙◌, arith}
 use Rattle.std.specs.declared.cmp.Ordering.{Ordering}
 use Rattle.std.specs.declared.cmp.Ordering.TheVariants.{Less, Equal, Greater}
-use Rattle.std.specs.List.{Contains}
 use Rattle.std.specs.Cmp.{IsTotalOrder}
-use Rattle.std.specs.Ordering.{nat_cmp}
 use Rattle.std.proofs.lemmas.Cmp.{tied_itself, nat_cmp_total, nat_list_cmp_total, on_total, then_total}
-
 use Rattle.std.proofs.lemmas.Bool.{false≢true}
-use Rattle.dt_graph.proofs.ListMembers.{In, In-from_Contains, Contains-from_In, All-In}
+use Rattle.dt_graph.proofs.ListMembers.{In, In-from_Contains, All-In}
 use Rattle.dt_scratch.specs.Query.{Query, arity_of_query, query_order}
 use Rattle.dt_propagate.specs.Begun.{up_to}
 use Rattle.dt_propagate.specs.Counts.{NoneTwice}

@@ -1,28 +1,25 @@
 -- Of selectors that aren't touched, and of queries of another arity, nothing is told.
-use Rattle.std.proofs.Common.{◌≡◌, ◌≢◌, ◌==◌, ℕ, zero, suc, ◌+◌, ◌-◌, ◌<◌, ◌≤◌, Bool, true, false, not, ◌&&◌, ◌||◌, IsTrue, List, [], ◌∷◌, ◌++◌, length, map, filter, get_or, Option, None, Some, inl, inr, ◌⊎◌, ⊎_elim, refl, sym, ap, subst, ◌∙◌, arith, All, eqb-true, eq-eqb, append_assoc, append-nil}
-use Rattle.std.specs.List.{Contains, list_any, range_with_len}
-use Rattle.std.specs.Option.{option_map_or}
-use Rattle.std.proofs.lemmas.Bool.{false≢true, and_parts, and_from, or_cases, or_left, or_right, or_parts, or_from, false_from_ne_true}
+use Rattle.std.proofs.Common.{◌≡◌, ◌≢◌, ◌==◌, ℕ, zero, suc, ◌+◌, Bool, true, false, not, ◌&&◌, ◌||◌, IsTrue, List, [], ◌∷◌, ◌++◌, length, filter, get_or, inl, inr, ◌⊎◌, ⊎_elim, refl, sym, ap, subst, ◌∙◌, arith, eqb-true, eq-eqb, append_assoc, append-nil}
+use Rattle.std.specs.List.{list_any, range_with_len}
+use Rattle.std.proofs.lemmas.Bool.{false≢true, and_parts, or_cases, or_left, or_right, or_parts, or_from, false_from_ne_true}
 use Rattle.dt_graph.specs.Graph.{has_number}
 use Rattle.dt_graph.specs.Below.{is_below}
-use Rattle.dt_graph.proofs.ListMembers.{by_cases, any_from_In, In, In-map, In-from_any, In-filter, In-from_filter, In-from_Contains, none_from, any_listed}
+use Rattle.dt_graph.proofs.ListMembers.{by_cases, any_from_In, In-map, In-from_any, In-filter, In-from_filter, none_from, any_listed}
 use Rattle.dt_selectors.specs.declared.limits.TheConstants.{SELECTORS}
-use Rattle.dt_definitions.specs.Program.{Definition, Program, arity_of, definitions_of, is_definition, key_of, same_classes}
+use Rattle.dt_definitions.specs.Program.{Program, definitions_of, is_definition, key_of, same_classes}
 use Rattle.dt_definitions.specs.Lawful.{Lawful}
 use Rattle.dt_definitions.specs.Naming.{naming}
 use Rattle.dt_definitions.specs.Differing.{is_at_any}
 use Rattle.dt_definitions.specs.declared.definition_key.DefinitionKey.{DefinitionKey}
 use Rattle.dt_scratch.specs.declared.reply.Answer.TheVariants.{NotUnderstood}
-use Rattle.dt_scratch.specs.declared.reply.Change.{Change}
 use Rattle.dt_scratch.specs.Query.{Query}
-use Rattle.dt_scratch.specs.CellLaws.{IsUnderstood}
 use Rattle.dt_scratch.specs.Resolve.{are_below, applicable, cell}
 use Rattle.dt_scratch.proofs.Cells.{understood_cells}
 use Rattle.dt_propagate.specs.Boxes.{in_turn}
 use Rattle.dt_propagate.specs.Differences.{Differs}
 use Rattle.dt_propagate.specs.FinerMarks.{is_marked, NamesAll, MarksTell, is_marked_candidate}
 use Rattle.dt_propagate.specs.GoneThrough.{all_arities, all_selectors, told_after, told_of}
-use Rattle.dt_propagate.specs.Marks.{has_at, names_at, is_named_at, is_below_in, is_moved, DifferNear}
+use Rattle.dt_propagate.specs.Marks.{has_at, names_at, is_named_at, is_moved, DifferNear}
 use Rattle.dt_propagate.specs.Touched.{TouchAll, takes, is_of_any, names_any}
 use Rattle.dt_propagate.specs.Walk.{is_same_answer, told_change}
 use Rattle.dt_propagate.proofs.Boxes.{In-from_turn}

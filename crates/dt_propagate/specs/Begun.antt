@@ -1,5 +1,5 @@
 -- The lists of classes that begin below the definitions of a selector, as they are counted.
-use Rattle.std.specs.Prelude.{◌==◌, ℕ, Bool, false, true, ◌&&◌, nat_lt, nat_le, if◌then◌else◌, List, [], ◌∷◌, length, Option, None, Some}
+use Rattle.std.specs.Prelude.{ℕ, Bool, false, true, ◌&&◌, nat_lt, nat_le, if◌then◌else◌, List, [], ◌∷◌, length, Option, None, Some}
 use Rattle.std.specs.List.{list_any}
 use Rattle.std.specs.Option.{option_map_or}
 use Rattle.dt_graph.specs.Graph.{Link}

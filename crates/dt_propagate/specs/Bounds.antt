@@ -1,5 +1,5 @@
 -- Bounds of cells that cost little: each definition is counted by itself.
-use Rattle.std.specs.Prelude.{ℕ, false, List, map}
+use Rattle.std.specs.Prelude.{false, List, map}
 use Rattle.dt_graph.specs.Graph.{Graph}
 use Rattle.dt_graph.specs.Descendants.{descendants}
 use Rattle.dt_definitions.specs.declared.defined.Defined.{Defined}

@@ -22,7 +22,12 @@ use std::alloc::Global;
 use std::sync::ledger::Ledger;
 
 // The classes at or below one whose links the batch changes, in one program or the other.
-fn edited_set(alloc: Global, old: &Program, batch: &Batch, new: &Program) -> Result<ClassSet, NoMemory>
+fn edited_set(
+    alloc: Global,
+    old: &Program,
+    batch: &Batch,
+    new: &Program,
+) -> Result<ClassSet, NoMemory>
     ensures { IfOk result (λ set. (n : ℕ) → has_number set n
         ≡ list_any (λ class. is_below_in old.now.graph.links new.now.graph.links n class) (edited_classes batch.now)) }
 {

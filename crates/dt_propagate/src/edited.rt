@@ -11,7 +11,9 @@ fn key_of(edit: &Edit) -> Option<DefinitionKey>
 {
     match edit {
         Edit::Define {
-            selector, classes, ..
+            selector,
+            classes,
+            ..
         }
         | Edit::Undefine { selector, classes } => Some(DefinitionKey {
             selector: *selector,

@@ -3,7 +3,6 @@
 
 mod bound;
 mod change_fault;
-
 mod count;
 mod differences;
 mod edited;
@@ -19,7 +18,6 @@ mod walk;
 mod what_changes;
 
 pub use change_fault::ChangeFault;
-
 pub use laws::{boxes_hold, candidates_are_held, finer_marks_serve, understood_is_held};
 pub use limits::{CELLS, ROWS};
 pub use what_changes::{changes, changes_counted};

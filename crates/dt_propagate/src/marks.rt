@@ -125,12 +125,23 @@ fn named_at(old: &Program, new: &Program, selector: SelNo, position: usize) -> C
 }
 
 // The marked classes of a position.
-fn near_at(old: &Program, new: &Program, selector: SelNo, edited: &ClassSet, position: usize) -> Near
+fn near_at(
+    old: &Program,
+    new: &Program,
+    selector: SelNo,
+    edited: &ClassSet,
+    position: usize,
+) -> Near
     ensures { (keys : List DefinitionKey) → DifferNear old.now new.now keys edited.now
         → NearTells old.now new.now selector position result }
 {
     let named = named_at(old, new, selector, position);
-    let changed = changed(old.graph(), new.graph(), &named, edited.classes().as_slice());
+    let changed = changed(
+        old.graph(),
+        new.graph(),
+        &named,
+        edited.classes().as_slice(),
+    );
     let marked = marked(old.graph(), &changed, &named);
     let above = above_all(old.graph(), new.graph(), marked.classes().as_slice());
     Near { marked, above }

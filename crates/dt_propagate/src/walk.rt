@@ -78,7 +78,17 @@ fn push_after<L: Ledger>(
     let classes = next.classes();
     for class in classes.as_slice() {
         prefix.push(*class);
-        push_after(old, new, selector, keys, nears, more - 1, prefix, steps, out)?;
+        push_after(
+            old,
+            new,
+            selector,
+            keys,
+            nears,
+            more - 1,
+            prefix,
+            steps,
+            out,
+        )?;
         prefix.pop();
     }
     Ok(())
@@ -118,7 +128,17 @@ fn push_with_arity<L: Ledger>(
     }
     let nears = nears(old, new, selector, edited);
     let mut prefix = ArrayVec::new();
-    push_after(old, new, selector, keys, &nears, arity, &mut prefix, steps, out)
+    push_after(
+        old,
+        new,
+        selector,
+        keys,
+        &nears,
+        arity,
+        &mut prefix,
+        steps,
+        out,
+    )
 }
 
 // What is told of the selector's queries goes to the end.

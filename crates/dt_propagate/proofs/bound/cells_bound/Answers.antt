@@ -1,10 +1,10 @@
-use Rattle.std.proofs.Common.{◌≡◌, ℕ, ◌+◌, ◌≤◌, List, length, sym, ap, subst, ◌∙◌, arith, refl}
+use Rattle.std.proofs.Common.{◌≡◌, ℕ, ◌≤◌, List, length, ap, subst, arith}
 use Rattle.dt_selectors.specs.declared.limits.TheConstants.{SELECTORS}
 use Rattle.dt_scratch.specs.Query.{Query}
 use Rattle.dt_propagate.specs.Begun.{told_cell}
 use Rattle.dt_propagate.specs.Boxes.{in_turn, sum_of_sizes}
 use Rattle.dt_propagate.specs.Counts.{boxes_of}
-use Rattle.dt_propagate.specs.GoneThrough.{all_arities, told_of, told_of_all}
+use Rattle.dt_propagate.specs.GoneThrough.{all_arities, told_of}
 use Rattle.dt_propagate.specs.declared.limits.TheConstants.{CELLS}
 use Rattle.dt_propagate.proofs.BoundSteps.{boxes_are, cells_bounded, one_selector_more}
 use Rattle.dt_propagate.proofs.Touching.{selectors_are}

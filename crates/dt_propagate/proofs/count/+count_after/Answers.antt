@@ -1,11 +1,10 @@
-use Rattle.std.proofs.Common.{rules, ◌≡◌, ◌==◌, ℕ, ◌+◌, ◌<◌, ◌≤◌, length, ◌-◌, List, [], ◌∷◌, ◌++◌, take, get_or, None, Some, refl, sym, ap, subst, ◌∙◌, arith}
-use Rattle.std.specs.List.{sum_by, list_any}
+use Rattle.std.proofs.Common.{rules, ◌≡◌, ℕ, ◌+◌, ◌<◌, length, ◌-◌, [], ◌∷◌, ◌++◌, get_or, None, sym, ap, ◌∙◌, arith}
+use Rattle.std.specs.List.{sum_by}
 use Rattle.std.proofs.lemmas.List.{take_all}
 use Rattle.std.proofs.lemmas.List.Sums.{sum_by_more, sum_by-take-le}
-use Rattle.dt_graph.specs.Graph.{has_number}
-use Rattle.dt_propagate.specs.Begun.{goes_begun, told_begun, is_begun_query, up_to}
+use Rattle.dt_propagate.specs.Begun.{told_begun, up_to}
 use Rattle.dt_propagate.specs.GoneThrough.{told_after}
-use Rattle.dt_propagate.proofs.Begun.{begun_is, whole, last, up_to_some, up_to_none, up_to_few, up_to_many}
+use Rattle.dt_propagate.proofs.Begun.{begun_is, whole, last, up_to_none, up_to_few, up_to_many}
 use Rattle.dt_propagate.proofs.count.+count_after.Goals as goal
 
 pub returns-then-more-eq1-clause-count : goal.returns-then-more-eq1-clause-count

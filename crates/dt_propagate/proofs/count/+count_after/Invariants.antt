@@ -1,4 +1,4 @@
-use Rattle.std.proofs.Common.{◌≡◌, ℕ, ◌≤◌, ◌-◌, take, length, ◌∷◌, [], ◌++◌}
+use Rattle.std.proofs.Common.{◌≡◌, ◌≤◌, ◌-◌, take, length, ◌∷◌, [], ◌++◌}
 use Rattle.std.specs.List.{sum_by}
 use Rattle.dt_propagate.specs.Begun.{told_begun}
 use Rattle.dt_propagate.specs.GoneThrough.{told_after}

@@ -1,4 +1,4 @@
-use Rattle.std.proofs.Common.{rules, ◌≡◌, ℕ, ◌+◌, ◌-◌, ◌<◌, List, None, Some, length, refl, sym, ap, ◌∙◌, arith}
+use Rattle.std.proofs.Common.{rules, ◌≡◌, ℕ, ◌+◌, ◌<◌, List, None, length, refl, sym, ap, ◌∙◌, arith}
 use Rattle.dt_selectors.specs.declared.limits.TheConstants.{SELECTORS}
 use Rattle.dt_scratch.specs.Query.{Query}
 use Rattle.dt_propagate.specs.Boxes.{in_turn}

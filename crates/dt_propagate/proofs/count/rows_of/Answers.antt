@@ -1,6 +1,5 @@
-use Rattle.std.proofs.Common.{rules, ◌≡◌, ℕ, ◌+◌, ◌-◌, ◌<◌, List, [], None, Some, length, refl, sym, ap, ◌∙◌, arith}
+use Rattle.std.proofs.Common.{rules, ◌≡◌, ℕ, ◌+◌, ◌<◌, List, [], None, length, sym, ap, ◌∙◌, arith}
 use Rattle.dt_scratch.specs.Query.{Query}
-use Rattle.dt_propagate.specs.Boxes.{in_turn}
 use Rattle.dt_propagate.specs.Begun.{row_lengths, told_begun, told_row, up_to}
 use Rattle.dt_propagate.specs.GoneThrough.{told_after, told_of}
 use Rattle.dt_propagate.proofs.Begun.{up_to_few, up_to_many}

@@ -1,8 +1,7 @@
-use Rattle.std.proofs.Common.{◌≡◌, ℕ, false, ◌&&◌, ◌||◌, IsTrue, take}
+use Rattle.std.proofs.Common.{◌≡◌, ℕ, take}
 use Rattle.std.specs.List.{list_any}
 use Rattle.dt_graph.specs.Graph.{has_number}
-use Rattle.dt_graph.specs.Below.{is_below}
-use Rattle.dt_propagate.specs.Marks.{has_at, is_below_in, is_moved}
+use Rattle.dt_propagate.specs.Marks.{is_moved}
 use Rattle.dt_propagate.proofs.marks.moved.Given as goal
 
 abbrev pub invariant-loop-class : goal.invariant-loop-class

@@ -1,6 +1,4 @@
-use Rattle.std.proofs.Common.{◌||◌, ap, ◌∙◌}
-use Rattle.std.specs.List.{list_any}
-use Rattle.dt_propagate.specs.Marks.{has_at, names_at}
+use Rattle.std.proofs.Common.{ap}
 use Rattle.dt_propagate.proofs.MarkSteps.{names_is, both_named}
 use Rattle.dt_graph.specs.Graph.{has_number}
 use Rattle.dt_propagate.proofs.marks.named_at.Goals as goal

@@ -1,4 +1,4 @@
-use Rattle.std.proofs.Common.{◌≡◌, ℕ, Bool, false, ◌||◌, get_or, ap, ◌∙◌}
+use Rattle.std.proofs.Common.{false, ◌||◌, get_or, ap, ◌∙◌}
 use Rattle.dt_propagate.specs.Touched.{is_of_any, names_any}
 use Rattle.dt_propagate.proofs.Touching.{touch_all, flags_are}
 use Rattle.dt_propagate.proofs.touched.touch_all.Goals as goal

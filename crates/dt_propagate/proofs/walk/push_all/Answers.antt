@@ -1,4 +1,4 @@
-use Rattle.std.proofs.Common.{◌≡◌, ℕ, ◌+◌, List, [], ◌++◌, ap, sym, ◌∙◌, arith}
+use Rattle.std.proofs.Common.{◌≡◌, ℕ, ◌+◌, List, ◌++◌, ap, ◌∙◌, arith}
 use Rattle.dt_scratch.specs.declared.reply.Change.{Change}
 use Rattle.dt_selectors.specs.declared.limits.TheConstants.{SELECTORS}
 use Rattle.dt_propagate.specs.Boxes.{in_turn}
@@ -15,8 +15,8 @@ loop-number-preserved g c =
     let is = c.in-Some.ensures in
     record {
       told = turned f 0 number (number + 1) number c.args.out.now.changes.items c.loop-number.out.changes.items c.push_if_touched.new.out.changes.items
-    (omega arith) (omega arith) c.loop-number.invariant.told
-    (c.in_ok-push_if_touched.ensures.told ∙ ap (λ s. c.loop-number.out.changes.items ++ f s) is.1);
+          (omega arith) (omega arith) c.loop-number.invariant.told
+          (c.in_ok-push_if_touched.ensures.told ∙ ap (λ s. c.loop-number.out.changes.items ++ f s) is.1);
       counted = counts_further c.args.steps.now c.loop-number.steps c.push_if_touched.new.steps c.args.out.now.counted c.loop-number.out.counted c.push_if_touched.new.out.counted
           c.loop-number.invariant.counted c.in_ok-push_if_touched.ensures.counted;
     }

@@ -14,7 +14,7 @@ loop-arity-preserved g c =
     let low = c.loop-arity.auto.arity in
     record {
       told = turned f 1 (arity - 1) (arity + 1 - 1) arity c.args.out.now.changes.items c.loop-arity.out.changes.items c.push_with_arity.new.out.changes.items
-    (omega (arith, low)) (omega (arith, low)) c.loop-arity.invariant.told c.in_ok-push_with_arity.ensures.told;
+          (omega (arith, low)) (omega (arith, low)) c.loop-arity.invariant.told c.in_ok-push_with_arity.ensures.told;
       counted = counts_further c.args.steps.now c.loop-arity.steps c.push_with_arity.new.steps c.args.out.now.counted c.loop-arity.out.counted c.push_with_arity.new.out.counted
           c.loop-arity.invariant.counted c.in_ok-push_with_arity.ensures.counted;
     }
