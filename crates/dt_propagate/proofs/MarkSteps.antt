@@ -67,3 +67,16 @@ module _ (old new : Program) (selector position : ℕ) (keys : List DefinitionKe
 pub both_named : (nothing middle after first second old new : Bool) → nothing ≡ false → middle ≡ (nothing || first) → after ≡ (middle || second) →
     first ≡ old → second ≡ new → after ≡ (old || new)
 both_named nothing middle after first second old new none m a f s = grind (arith, none, m, a, f, s)
+
+none_listed : (xs : List ℕ) (n : ℕ) → length xs ≡ 0 → has_number xs n ≡ false
+none_listed [] n e = refl
+none_listed (x ∷ xs) n e = absurd (omega (arith, e))
+
+pub nothing_edited : (old new : Program) (selector position : ℕ) (keys : List DefinitionKey) (edited marked above : List ℕ) →
+    DifferNear old new keys edited → length edited ≡ 0 → marked ≡ [] → above ≡ [] →
+    NearTells old new selector position (record { marked = marked; above = above })
+nothing_edited old new selector position keys edited marked above differ none m a = record {
+  same_above = λ class high unmarked there. differ.others class high (none_listed edited class none);
+  same_order = λ class a b unmarked na nb below. differ.others a b (none_listed edited a none);
+  listed_above = λ class high there below. absurd (false≢true (sym (ap (λ xs. has_number xs class) m) ∙ there));
+}

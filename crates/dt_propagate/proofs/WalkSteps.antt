@@ -1,8 +1,9 @@
 -- The walk over the queries whose cells may differ leaves none of them out.
-use Rattle.std.proofs.Common.{◌≡◌, ℕ, zero, suc, ◌+◌, ◌-◌, ◌<◌, Bool, false, ◌||◌, IsTrue, List, [], ◌∷◌, ◌++◌, length, filter, take, inl, refl, sym, ap, subst, ◌∙◌, arith, append_assoc}
+use Rattle.std.proofs.Common.{◌≡◌, ℕ, zero, suc, ◌+◌, ◌-◌, ◌<◌, Bool, true, false, ◌==◌, ◌&&◌, ◌||◌, eqb-true, IsTrue, List, [], ◌∷◌, ◌++◌, length, filter, take, inl, refl, sym, ap, subst, ◌∙◌, arith, append_assoc}
 use Rattle.std.specs.List.{list_any}
 use Rattle.std.proofs.lemmas.Bool.{false≢true, and_parts, and_from}
-use Rattle.dt_graph.specs.Graph.{has_number}
+use Rattle.dt_graph.specs.Graph.{Link, has_number}
+use Rattle.dt_graph.specs.Below.{is_below}
 use Rattle.dt_graph.specs.Lawful.{AscendingNumbers}
 use Rattle.dt_graph.specs.declared.limits.TheConstants.{CLASSES}
 use Rattle.dt_graph.proofs.AscendingSets.{same_truth, same_numbers}
@@ -17,7 +18,7 @@ use Rattle.dt_scratch.specs.Query.{Query}
 use Rattle.dt_propagate.specs.Boxes.{in_turn}
 use Rattle.dt_propagate.specs.Differences.{Differs}
 use Rattle.dt_propagate.specs.GoneThrough.{all_classes, told_after}
-use Rattle.dt_propagate.specs.Walk.{goes_on, goes_on_defined, goes_on_redefined, goes_on_in, goes_next, GoesThroughAll, told_change}
+use Rattle.dt_propagate.specs.Walk.{goes_on, goes_on_defined, goes_on_redefined, goes_on_in, goes_next, is_any_above, is_unmarked, GoesThroughAll, told_change}
 use Rattle.dt_propagate.specs.declared.near.Near.{Near}
 use Rattle.dt_propagate.proofs.GoneThrough.{classes_ascend, class_listed, class_below, told_from}
 use Rattle.dt_propagate.proofs.Leaf.{told_once, told_differs}
@@ -104,3 +105,46 @@ take_pushed xs x = let e : length (xs ++ x ∷ []) - 1 ≡ length xs = omega (ar
     front : (xs : List ℕ) → take (length xs) (xs ++ x ∷ []) ≡ xs
     front [] = refl
     front (y ∷ ys) = ap (λ zs. y ∷ zs) (front ys)
+
+-- ---- where nothing is marked
+
+none_listed : (xs : List ℕ) (n : ℕ) → length xs ≡ 0 → has_number xs n ≡ false
+none_listed [] n e = refl
+none_listed (x ∷ xs) n e = absurd (omega (arith, e))
+
+unmarked_parts : (near : Near) (nears : List Near) → is_unmarked (near ∷ nears) ≡ true →
+    (length near.marked ≡ 0) × (length near.above ≡ 0) × (is_unmarked nears ≡ true)
+unmarked_parts near nears t =
+    let first = and_parts (length near.marked == 0) ((length near.above == 0) && is_unmarked nears) t in
+    let rest = and_parts (length near.above == 0) (is_unmarked nears) first.1 in
+    (eqb-true (length near.marked) 0 first.0, eqb-true (length near.above) 0 rest.0, rest.1)
+
+none_above : (nears : List Near) (highs : List ℕ) → is_unmarked nears ≡ true → is_any_above nears highs ≡ false
+none_above [] highs t = refl
+none_above (near ∷ nears) [] t = refl
+none_above (near ∷ nears) (high ∷ highs) t =
+    let parts = unmarked_parts near nears t in
+    rw (none_listed near.above high parts.1, none_above nears highs parts.2) refl
+
+and_nothing : (a : Bool) → (a && false) ≡ false
+and_nothing a = grind arith
+
+unmarked_goes : (links : List Link) (nears : List Near) (highs prefix : List ℕ) (class : ℕ) → is_unmarked nears ≡ true →
+    goes_on links nears false highs prefix class ≡ false
+unmarked_goes links [] highs prefix class t = refl
+unmarked_goes links (near ∷ nears) [] prefix class t = refl
+unmarked_goes links (near ∷ nears) (high ∷ highs) [] class t =
+    let parts = unmarked_parts near nears t in
+    rw (none_above nears highs parts.2, none_listed near.marked class parts.0) (and_nothing (is_below links class high))
+unmarked_goes links (near ∷ nears) (high ∷ highs) (first ∷ prefix) class t =
+    let parts = unmarked_parts near nears t in
+    rw (none_listed near.marked first parts.0, unmarked_goes links nears highs prefix class parts.2) (and_nothing (is_below links first high))
+
+pub unmarked_none : (links : List Link) (nears : List Near) (defined : List Defined) (prefix : List ℕ) (n : ℕ) (before : Bool) → is_unmarked nears ≡ true →
+    before ≡ (before || list_any (λ d. goes_on links nears false d.classes prefix n) defined)
+unmarked_none links nears defined prefix n before t =
+    let none = along defined in grind (arith, none)
+  where
+    along : (defined : List Defined) → list_any (λ d. goes_on links nears false d.classes prefix n) defined ≡ false
+    along [] = refl
+    along (d ∷ defined) = rw (unmarked_goes links nears d.classes prefix n t) (along defined)

@@ -8,7 +8,7 @@ use Rattle.dt_propagate.specs.Counted.{CountsOn, greatest}
 use Rattle.dt_propagate.specs.Limits.{HasMoreCells, HasMoreRows, IsWithinLimits, IsFullBy}
 use Rattle.dt_propagate.specs.Understood.{Understands, IsRow}
 use Rattle.dt_propagate.specs.declared.limits.TheConstants.{CELLS, ROWS}
-use Rattle.dt_propagate.specs.declared.change_fault.ChangeFault.TheVariants.{CellsFull, RowsFull}
+use Rattle.dt_propagate.specs.declared.change_fault.ChangeFault.TheVariants.{RowsFull}
 
 cells : CELLS ≡ 4194304
 cells = refl

@@ -1,5 +1,5 @@
 -- Which class may come next where the queries whose cells may differ are gone through class by class.
-use Rattle.std.specs.Prelude.{◌==◌, ℕ, Bool, false, true, ◌&&◌, ◌||◌, if◌then◌else◌, List, [], ◌∷◌, ◌++◌, IsTrue}
+use Rattle.std.specs.Prelude.{◌==◌, ℕ, Bool, false, true, ◌&&◌, ◌||◌, if◌then◌else◌, List, [], ◌∷◌, ◌++◌, length, IsTrue}
 use Rattle.std.specs.List.{list_any}
 use Rattle.dt_graph.specs.Graph.{Link, has_number}
 use Rattle.dt_graph.specs.Below.{is_below}
@@ -30,6 +30,11 @@ abbrev pub is_any_above : List Near → List ℕ → Bool
 is_any_above [] highs = false
 is_any_above (near ∷ nears) [] = false
 is_any_above (near ∷ nears) (high ∷ highs) = has_number near.above high || is_any_above nears highs
+
+-- whether no class is marked at any position, and none is above one
+abbrev pub is_unmarked : List Near → Bool
+is_unmarked [] = true
+is_unmarked (near ∷ nears) = (length near.marked == 0) && ((length near.above == 0) && is_unmarked nears)
 
 -- Whether the class goes on from the prefix below these classes; and unless a marked one was met, it is marked or a marked
 -- one may still come.

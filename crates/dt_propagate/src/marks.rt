@@ -135,6 +135,12 @@ fn near_at(
     ensures { (keys : List DefinitionKey) → DifferNear old.now new.now keys edited.now
         → NearTells old.now new.now selector position result }
 {
+    if edited.len() == 0 {
+        return Near {
+            marked: ClassSet::new(),
+            above: ClassSet::new(),
+        };
+    }
     let named = named_at(old, new, selector, position);
     let changed = changed(
         old.graph(),

@@ -1,7 +1,7 @@
 ghost use Rattle.std.specs.Prelude.{◌≡◌, ◌==◌, ℕ, Bool, false, true, ◌&&◌, ◌||◌};
 ghost use Rattle.std.specs.List.{list_any};
 ghost use Rattle.dt_graph.specs.Graph.{has_number};
-ghost use Rattle.dt_propagate.specs.Walk.{goes_on, is_any_above};
+ghost use Rattle.dt_propagate.specs.Walk.{goes_on, is_any_above, is_unmarked};
 
 use dt_definitions::{Defined, DefinitionKey};
 use dt_graph::{ClassGraph, ClassNo, ClassSet};
@@ -25,6 +25,16 @@ fn is_any_above(nears: &[Near], highs: &[ClassNo]) -> bool
         return false;
     };
     near.above.contains(*high) || is_any_above(nears, highs)
+}
+
+// Whether no class is marked at any position, and none is above one.
+fn is_unmarked(nears: &[Near]) -> bool
+    ensures { result ≡ is_unmarked nears.now }
+{
+    let [near, nears @ ..] = nears else {
+        return true;
+    };
+    near.marked.len() == 0 && near.above.len() == 0 && is_unmarked(nears)
 }
 
 // The classes of the cone are in the set from now on: all of them, or the marked ones.
@@ -78,6 +88,9 @@ pub(crate) fn insert_defined(
     ensures { (n : ℕ) → has_number next.new n
         ≡ (has_number next.old n || list_any (λ d. goes_on graph.now.links nears.now false d.classes prefix.now n) definitions.now) }
 {
+    if is_unmarked(nears) {
+        return;
+    }
     for defined in definitions {
         insert_below(graph, nears, false, defined.classes.classes(), prefix, next);
     }

@@ -1,5 +1,5 @@
-use Rattle.std.proofs.Common.{◌∙◌}
-use Rattle.dt_propagate.proofs.MarkSteps.{near_tells}
+use Rattle.std.proofs.Common.{sym, ◌∙◌}
+use Rattle.dt_propagate.proofs.MarkSteps.{near_tells, nothing_edited}
 use Rattle.dt_propagate.proofs.marks.near_at.Goals as goal
 
 pub returns : goal.returns
@@ -17,3 +17,8 @@ returns c keys differ =
     let above_old = rw (c.graph-4.ensures, c.graph-5.ensures, marks) at above in
     near_tells old new c.args.selector c.args.position keys edited c.named_at-named.result c.changed-changed.result
     c.marked-marked.result c.above_all-above.result differ c.named_at-named.ensures changed_old marked_old above_old
+
+pub returns-then-len-eq0 : goal.returns-then-len-eq0
+returns-then-len-eq0 c keys differ =
+    nothing_edited c.args.old.now c.args.new.now c.args.selector c.args.position keys c.args.edited.now c.new.result c.new-then-len-eq0.result
+    differ (sym c.len.ensures.value ∙ c.if-len-eq0.true) c.new.ensures c.new-then-len-eq0.ensures
