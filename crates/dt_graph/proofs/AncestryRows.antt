@@ -1,5 +1,5 @@
 -- Rows of class sets of which those in some places are changed, and what that makes of the two lists of an ancestry.
-use Rattle.std.proofs.Common.{◌≡◌, ◌==◌, ℕ, ◌+◌, ◌<◌, Bool, true, false, cond, not, ◌&&◌, ◌||◌, nat_lt, List, [], length, get_or, set, None, Some, refl, sym, ap, ◌∙◌, arith, lt-ltb, inl, inr}
+use Rattle.std.proofs.Common.{◌≡◌, ℕ, ◌+◌, ◌<◌, Bool, true, false, cond, not, ◌&&◌, ◌||◌, nat_lt, List, [], length, get_or, set, None, Some, refl, sym, ap, ◌∙◌, arith, lt-ltb, inl, inr}
 use Rattle.std.proofs.lemmas.Bool.{cases_eq, cases_lt, cond-true, cond-false, and_from, and_left, and_right, le-ltb}
 use Rattle.std.proofs.lemmas.List.{get_or_default, get_or-set_same, get_or-set_other, length-set}
 use Rattle.dt_graph.specs.Graph.{has_number}
@@ -70,14 +70,8 @@ IsChangedTo-all change old new places least none so_far k n =
 
 -- ---- what may change
 
-abbrev pub with_one : ℕ → Bool → ℕ → Bool
-with_one class bit n = bit || (class == n)
-
 abbrev pub with_all : List ℕ → Bool → ℕ → Bool
 with_all classes bit n = bit || has_number classes n
-
-abbrev pub without_one : ℕ → Bool → ℕ → Bool
-without_one class bit n = bit && not (n == class)
 
 abbrev pub without_all : List ℕ → Bool → ℕ → Bool
 without_all classes bit n = bit && not (has_number classes n)

@@ -4,7 +4,7 @@ ghost use Rattle.dt_graph.specs.Ancestry.{holds, row_has};
 
 use crate::class_no::ClassNo;
 use crate::class_set::ClassSet;
-use crate::counted_rows::{each_counted, insert_counted, remove_at, remove_counted};
+use crate::counted_rows::{each_counted, insert_counted, remove_counted};
 use crate::counted_set::CountedSet;
 use crate::limits::CLASSES;
 use crate::no_memory::NoMemory;
@@ -163,7 +163,7 @@ impl Ancestry {
         let old = self.above(low).copy();
         let mut alone = ClassSet::new();
         alone.insert(low);
-        remove_at(&mut self.below, &old.without(row), low);
+        remove_counted(&mut self.below, &old.without(row), &alone);
         insert_counted(&mut self.below, &row.without(&old), &alone);
         self.above[low.number() as usize] = row.copy();
     }

@@ -28,54 +28,11 @@ pub(crate) fn insert_counted(rows: &mut [CountedSet], places: &ClassSet, classes
     ensures rows { (k n : ℕ) → row_has rows.new k n
         ≡ (row_has rows.old k n || (has_number places.now k && has_number classes.now n)) }
 {
-    // One class is counted without a look at the others.
-    match classes.only() {
-        Some(class) => insert_at(rows, places, class),
-        None => insert_all_at(rows, places, classes),
-    }
-}
-
-// Each row that `places` names has the class too from now on.
-fn insert_at(rows: &mut [CountedSet], places: &ClassSet, class: ClassNo)
-    requires { length rows.old ≡ CLASSES }
-    ensures count { length rows.new ≡ CLASSES }
-    ensures rows { (k n : ℕ) → row_has rows.new k n
-        ≡ (row_has rows.old k n || (has_number places.now k && (class == n))) }
-{
     places.law();
+    let only = classes.only();
     let mut least = 0;
     while let Some(place) = places.first_from(least) {
-        rows[place.number() as usize].insert(class);
-        least = place.number() as usize + 1;
-    }
-}
-
-// Each row that `places` names has these classes too from now on.
-fn insert_all_at(rows: &mut [CountedSet], places: &ClassSet, classes: &ClassSet)
-    requires { length rows.old ≡ CLASSES }
-    ensures count { length rows.new ≡ CLASSES }
-    ensures rows { (k n : ℕ) → row_has rows.new k n
-        ≡ (row_has rows.old k n || (has_number places.now k && has_number classes.now n)) }
-{
-    places.law();
-    let mut least = 0;
-    while let Some(place) = places.first_from(least) {
-        rows[place.number() as usize].insert_all(classes);
-        least = place.number() as usize + 1;
-    }
-}
-
-// Each row that `places` names has the class no more.
-pub(crate) fn remove_at(rows: &mut [CountedSet], places: &ClassSet, class: ClassNo)
-    requires { length rows.old ≡ CLASSES }
-    ensures count { length rows.new ≡ CLASSES }
-    ensures rows { (k n : ℕ) → row_has rows.new k n
-        ≡ (row_has rows.old k n && not (has_number places.now k && n == class)) }
-{
-    places.law();
-    let mut least = 0;
-    while let Some(place) = places.first_from(least) {
-        rows[place.number() as usize].remove(class);
+        rows[place.number() as usize].insert_these(classes, &only);
         least = place.number() as usize + 1;
     }
 }
@@ -88,9 +45,10 @@ pub(crate) fn remove_counted(rows: &mut [CountedSet], places: &ClassSet, classes
         ≡ (row_has rows.old k n && not (has_number places.now k && has_number classes.now n)) }
 {
     places.law();
+    let only = classes.only();
     let mut least = 0;
     while let Some(place) = places.first_from(least) {
-        rows[place.number() as usize].remove_all(classes);
+        rows[place.number() as usize].remove_these(classes, &only);
         least = place.number() as usize + 1;
     }
 }

@@ -1,4 +1,4 @@
-ghost use Rattle.std.specs.Prelude.{◌≡◌, ◌==◌, ℕ, [], ◌∷◌, ◌&&◌, ◌||◌, not, length};
+ghost use Rattle.std.specs.Prelude.{◌≡◌, ◌==◌, ℕ, [], ◌∷◌, ◌&&◌, ◌||◌, not, IfSome, length};
 ghost use Rattle.dt_graph.specs.Graph.{has_number};
 
 use crate::class_no::ClassNo;
@@ -48,7 +48,7 @@ impl CountedSet {
     }
 
     // The class is in the set from now on. It takes one step.
-    pub(crate) fn insert(&mut self, class: ClassNo)
+    fn insert(&mut self, class: ClassNo)
         ensures { (n : ℕ) → has_number self.new n ≡ (has_number self.old n || (class == n)) }
     {
         self.classes.law();
@@ -59,7 +59,7 @@ impl CountedSet {
     }
 
     // The class isn't in the set from now on. It takes one step.
-    pub(crate) fn remove(&mut self, class: ClassNo)
+    fn remove(&mut self, class: ClassNo)
         ensures { (n : ℕ) → has_number self.new n ≡ (has_number self.old n && not (n == class)) }
     {
         self.classes.law();
@@ -71,17 +71,39 @@ impl CountedSet {
     }
 
     // The classes of the other set are in the set from now on, too.
-    pub(crate) fn insert_all(&mut self, other: &ClassSet)
+    fn insert_all(&mut self, other: &ClassSet)
         ensures { (n : ℕ) → has_number self.new n ≡ (has_number self.old n || has_number other.now n) }
     {
         self.size = self.classes.insert_all_counting(other) as u16;
     }
 
     // The classes of the other set aren't in the set from now on.
-    pub(crate) fn remove_all(&mut self, other: &ClassSet)
+    fn remove_all(&mut self, other: &ClassSet)
         ensures { (n : ℕ) → has_number self.new n ≡ (has_number self.old n && not (has_number other.now n)) }
     {
         self.classes.remove_all(other);
         self.size = self.classes.len() as u16;
+    }
+
+    // The same as `insert_all`. Where the other set has one class, it takes one step.
+    pub(crate) fn insert_these(&mut self, other: &ClassSet, only: &Option<ClassNo>)
+        requires { IfSome only.now (λ class. other.now ≡ class ∷ []) }
+        ensures { (n : ℕ) → has_number self.new n ≡ (has_number self.old n || has_number other.now n) }
+    {
+        match only {
+            Some(class) => self.insert(*class),
+            None => self.insert_all(other),
+        }
+    }
+
+    // The same as `remove_all`. Where the other set has one class, it takes one step.
+    pub(crate) fn remove_these(&mut self, other: &ClassSet, only: &Option<ClassNo>)
+        requires { IfSome only.now (λ class. other.now ≡ class ∷ []) }
+        ensures { (n : ℕ) → has_number self.new n ≡ (has_number self.old n && not (has_number other.now n)) }
+    {
+        match only {
+            Some(class) => self.remove(*class),
+            None => self.remove_all(other),
+        }
     }
 }

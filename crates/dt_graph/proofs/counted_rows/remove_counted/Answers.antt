@@ -11,8 +11,8 @@ loop-place-preserved c =
     let found = sym c.first_from.ensures ∙ c.in-Some.is ∙ ap (λ n. Some n) (sym c.number.ensures.value) in (
       omega (arith, c.number-in-Some.ensures.in_range),
       IsChangedTo-more (without_all c.args.classes.now) c.args.rows.now c.loop-place.rows c.args.places.now c.loop-place.least c.number.result c.number-in-Some.result
-          c.index-rows-number.result c.remove_all.new.self c.law.ensures.ascend found (c.number-in-Some.ensures.value ∙ sym c.number.ensures.value)
-          (omega (arith, c.requires, c.loop-place.invariant.1.count, c.number.ensures.in_range)) c.remove_all.ensures c.loop-place.invariant.1,
+          c.index-rows-number.result c.remove_these.new.self c.law.ensures.ascend found (c.number-in-Some.ensures.value ∙ sym c.number.ensures.value)
+          (omega (arith, c.requires, c.loop-place.invariant.1.count, c.number.ensures.in_range)) c.remove_these.ensures c.loop-place.invariant.1,
     )
 
 pub loop-place-smaller : goal.loop-place-smaller

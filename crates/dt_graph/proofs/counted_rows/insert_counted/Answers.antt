@@ -4,15 +4,15 @@ use Rattle.dt_graph.specs.Ancestry.{row_has}
 use Rattle.dt_graph.specs.declared.limits.TheConstants.{CLASSES}
 use Rattle.dt_graph.proofs.AscendingSets.{first_bounds}
 use Rattle.dt_graph.proofs.AncestryRows.{IsChangedTo-more, IsChangedTo-all, with_all, with_all_said}
-use Rattle.dt_graph.proofs.counted_rows.insert_all_at.Goals as goal
+use Rattle.dt_graph.proofs.counted_rows.insert_counted.Goals as goal
 
 pub loop-place-preserved : goal.loop-place-preserved
 loop-place-preserved c =
     let found = sym c.first_from.ensures ∙ c.in-Some.is ∙ ap (λ n. Some n) (sym c.number.ensures.value) in (
       omega (arith, c.number-in-Some.ensures.in_range),
       IsChangedTo-more (with_all c.args.classes.now) c.args.rows.now c.loop-place.rows c.args.places.now c.loop-place.least c.number.result c.number-in-Some.result
-          c.index-rows-number.result c.insert_all.new.self c.law.ensures.ascend found (c.number-in-Some.ensures.value ∙ sym c.number.ensures.value)
-          (omega (arith, c.requires, c.loop-place.invariant.1.count, c.number.ensures.in_range)) c.insert_all.ensures c.loop-place.invariant.1,
+          c.index-rows-number.result c.insert_these.new.self c.law.ensures.ascend found (c.number-in-Some.ensures.value ∙ sym c.number.ensures.value)
+          (omega (arith, c.requires, c.loop-place.invariant.1.count, c.number.ensures.in_range)) c.insert_these.ensures c.loop-place.invariant.1,
     )
 
 pub loop-place-smaller : goal.loop-place-smaller
