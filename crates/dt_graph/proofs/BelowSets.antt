@@ -1,6 +1,7 @@
 -- What becomes of below when the links of a set of classes change.
-use Rattle.std.proofs.Common.{◌≡◌, ℕ, Bool, true, false, ◌||◌, IsTrue, List, [], ◌∷◌, refl, sym, subst, ap, ◌∙◌, ◌⊎◌, inl, inr, ⊎_elim}
+use Rattle.std.proofs.Common.{◌≡◌, ℕ, false, IsTrue, List, [], ◌∷◌, sym, subst, ap, ◌∙◌, ◌⊎◌, inl, inr, ⊎_elim}
 use Rattle.std.proofs.lemmas.Bool.{false≢true}
+use Rattle.std.proofs.Math.Bool.{or-false}
 use Rattle.dt_graph.specs.Graph.{Link, Graph, has_number, is_live, has_link}
 use Rattle.dt_graph.specs.Below.{Leads, is_below}
 use Rattle.dt_graph.specs.Lawful.{LawfulGraph}
@@ -90,15 +91,11 @@ others_stay_below edited old new same a b apart = same_truth (is_below old a b) 
 
 -- ---- the links of one class that change
 
-pub or_false : (t : Bool) → (t || false) ≡ t
-or_false true = refl
-or_false false = refl
-
 -- the same classes are at or below the class
 pub same_below_class : (class : ℕ) (old new : List Link) → OthersKeepTheirLinks (class ∷ []) old new → (a : ℕ) → is_below old a class ≡ is_below new a class
 same_below_class class old new same a =
-    sym (or_false (is_below old a class)) ∙ same_are_below_edited (class ∷ []) old new same a ∙ or_false (is_below new a class)
+    sym (or-false (is_below old a class)) ∙ same_are_below_edited (class ∷ []) old new same a ∙ or-false (is_below new a class)
 
 -- a class that isn't is below what it was below
 pub same_below_elsewhere : (class : ℕ) (old new : List Link) → OthersKeepTheirLinks (class ∷ []) old new → (a b : ℕ) → is_below old a class ≡ false → is_below old a b ≡ is_below new a b
-same_below_elsewhere class old new same a b apart = others_stay_below (class ∷ []) old new same a b (or_false (is_below old a class) ∙ apart)
+same_below_elsewhere class old new same a b apart = others_stay_below (class ∷ []) old new same a b (or-false (is_below old a class) ∙ apart)

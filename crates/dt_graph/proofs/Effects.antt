@@ -1,52 +1,10 @@
 -- Which classes are live and which links are there after a change: what the change is about, and what was there.
-use Rattle.std.proofs.Common.{◌≡◌, ◌==◌, ℕ, Bool, true, false, not, ◌&&◌, ◌||◌, IsTrue, List, [], ◌∷◌, filter, refl, sym, ap, subst, ◌∙◌, ⊎_elim, eqb-true, eq-eqb, arith}
-use Rattle.std.proofs.lemmas.Bool.{or_cases, or_left, or_right, and_parts, and_from, and_right, cond_both}
-use Rattle.dt_graph.specs.Graph.{Link, Graph, has_number, is_live, is_link, has_link, place_link, place_links}
+use Rattle.std.proofs.Common.{◌≡◌, ◌==◌, ℕ, Bool, false, not, ◌&&◌, ◌||◌, List, refl, ap, eq-eqb}
+use Rattle.std.proofs.lemmas.Bool.{and_right}
+use Rattle.dt_graph.specs.Graph.{Graph, has_number, is_live, is_link, has_link}
 use Rattle.dt_graph.specs.GraphChange.{add_effect, drop_effect, link_effect, unlink_effect}
-use Rattle.dt_graph.proofs.LinkLists.{has_number-placed, has_link-placed, has_number-filter, has_number-kept, has_link-filter}
-use Rattle.dt_graph.proofs.AscendingSets.{same_truth}
-
--- ---- what is left of numbers and links
-
-pub has_number-filtered : (test : ℕ → Bool) (numbers : List ℕ) (n : ℕ) → has_number (filter test numbers) n ≡ (has_number numbers n && test n)
-has_number-filtered test numbers n = same_truth (has_number (filter test numbers) n) (has_number numbers n && test n)
-    (λ kept. let both = has_number-filter test numbers n kept in and_from (has_number numbers n) (test n) both.0 both.1)
-    (λ both. let parts = and_parts (has_number numbers n) (test n) both in has_number-kept test numbers n parts.0 parts.1)
-
-has_link-kept : (test : Link → Bool) (links : List Link) (a b : ℕ) → IsTrue (has_link links a b) → test (record { class = a; parent = b }) ≡ true → IsTrue (has_link (filter test links) a b)
-has_link-kept test [] a b listed passes = listed
-has_link-kept test (link ∷ links) a b listed passes = ⊎_elim
-    (λ here.
-    let ends = and_parts (link.class == a) (link.parent == b) here in
-    let P : ℕ → Type 0 = λ m. test (record { class = m; parent = link.parent }) ≡ true in
-    let Q : ℕ → Type 0 = λ m. test (record { class = a; parent = m }) ≡ true in
-    let own : test link ≡ true = subst P (sym (eqb-true link.class a ends.0)) (subst Q (sym (eqb-true link.parent b ends.1)) passes) in
-    rw own (or_left (is_link a b link) (has_link (filter test links) a b) here))
-    (λ later. cond_both (test link) (link ∷ filter test links) (filter test links) (λ ls. IsTrue (has_link ls a b))
-    (λ p. or_right (is_link a b link) (has_link (filter test links) a b) (has_link-kept test links a b later passes))
-    (λ f. has_link-kept test links a b later passes))
-    (or_cases (is_link a b link) (has_link links a b) listed)
-
-has_link-filtered : (test : Link → Bool) (links : List Link) (a b : ℕ) → has_link (filter test links) a b ≡ (has_link links a b && test (record { class = a; parent = b }))
-has_link-filtered test links a b = same_truth (has_link (filter test links) a b) (has_link links a b && test (record { class = a; parent = b }))
-    (λ kept. let both = has_link-filter test links a b kept in and_from (has_link links a b) (test (record { class = a; parent = b })) both.0 both.1)
-    (λ both. let parts = and_parts (has_link links a b) (test (record { class = a; parent = b })) both in has_link-kept test links a b parts.0 parts.1)
-
--- ---- what is there with links to some parents
-
-one_more : (own parent later old : Bool) → ((own && later) || ((own && parent) || old)) ≡ ((own && (parent || later)) || old)
-one_more own parent later old = grind arith
-
-none_more : (own old : Bool) → old ≡ ((own && false) || old)
-none_more own old = grind arith
-
-has_link-all_placed : (class : ℕ) (parents : List ℕ) (links : List Link) (a b : ℕ) → has_link (place_links class parents links) a b ≡ (((class == a) && has_number parents b) || has_link links a b)
-has_link-all_placed class [] links a b = none_more (class == a) (has_link links a b)
-has_link-all_placed class (p ∷ parents) links a b =
-    let link : Link = record { class = class; parent = p } in
-    has_link-all_placed class parents (place_link link links) a b
-    ∙ ap (λ t. ((class == a) && has_number parents b) || t) (has_link-placed link links a b)
-    ∙ one_more (class == a) (p == b) (has_number parents b) (has_link links a b)
+pub use Rattle.dt_graph.proofs.LinkLists.{has_number-filtered}
+use Rattle.dt_graph.proofs.LinkLists.{has_number-placed, has_link-placed, has_link-all_placed, has_link-filtered}
 
 -- ---- what each change leaves
 

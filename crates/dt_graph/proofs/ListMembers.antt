@@ -158,18 +158,12 @@ module _ {T : Type 0} (p q : T → Bool) where
   -- a filter after a weaker one
   pub filter-weaker : (xs : List T) → ((x : T) → p x ≡ true → q x ≡ true) → filter p (filter q xs) ≡ filter p xs
   filter-weaker [] f = refl
-  filter-weaker (y ∷ ys) f =
-      by_cases (p y)
-      (λ e. rw (f y e, e) (ap (λ zs. y ∷ zs) (filter-weaker ys f)))
-      (λ e. rw e (elim (q y) as (λ v. filter p (cond v (y ∷ filter q ys) (filter q ys)) ≡ filter p ys)
-      [ true ↦ rw e (filter-weaker ys f) | false ↦ filter-weaker ys f ]))
+  filter-weaker (y ∷ ys) f = let r = filter-weaker ys f in let h = f y in grind arith
 
 module _ {A B : Type 0} (f : A → B) (p : B → Bool) where
   pub filter-map : (xs : List A) → filter p (map f xs) ≡ map f (filter (λ x. p (f x)) xs)
   filter-map [] = refl
-  filter-map (x ∷ xs) =
-      elim (p (f x)) as (λ v. cond v (f x ∷ filter p (map f xs)) (filter p (map f xs)) ≡ map f (cond v (x ∷ filter (λ x. p (f x)) xs) (filter (λ x. p (f x)) xs)))
-      [ true ↦ ap (λ ys. f x ∷ ys) (filter-map xs) | false ↦ filter-map xs ]
+  filter-map (x ∷ xs) = let r = filter-map xs in grind arith
 
   pub list_any-map : (xs : List A) → list_any p (map f xs) ≡ list_any (λ x. p (f x)) xs
   list_any-map [] = refl
@@ -178,6 +172,4 @@ module _ {A B : Type 0} (f : A → B) (p : B → Bool) where
 module _ {A : Type 0} (p q : A → Bool) where
   pub filter-filter : (xs : List A) → filter q (filter p xs) ≡ filter (λ x. p x && q x) xs
   filter-filter [] = refl
-  filter-filter (x ∷ xs) =
-      elim (p x) as (λ v. filter q (cond v (x ∷ filter p xs) (filter p xs)) ≡ cond (v && q x) (x ∷ filter (λ x. p x && q x) xs) (filter (λ x. p x && q x) xs))
-      [ true ↦ rw (filter-filter xs) refl | false ↦ filter-filter xs ]
+  filter-filter (x ∷ xs) = let r = filter-filter xs in grind arith

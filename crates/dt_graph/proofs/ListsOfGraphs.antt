@@ -11,7 +11,7 @@ use Rattle.dt_graph.specs.GraphChange.{lowest_subclass}
 use Rattle.dt_graph.proofs.ParentLists.{has_link_listed}
 use Rattle.dt_graph.proofs.Ascending.{AscendingNumbers-cons, AscendingNumbers-filter, LinkBelowAll, link_below_rest, links_tail}
 use Rattle.dt_graph.proofs.Subclasses.{IsLowest, lowest_linked}
-use Rattle.dt_graph.proofs.Effects.{has_number-filtered}
+use Rattle.dt_graph.proofs.LinkLists.{has_number-filtered}
 
 -- ---- parents
 

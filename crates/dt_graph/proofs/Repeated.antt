@@ -1,10 +1,9 @@
 -- The first number that stands among earlier ones, found from the front on.
-use Rattle.std.proofs.Common.{◌≡◌, ◌==◌, ℕ, ◌+◌, ◌<◌, ◌≤◌, true, false, cond, ◌||◌, List, [], ◌∷◌, ◌++◌, length, get_or, take, drop, Some, None, refl, sym, ap, ◌∙◌}
+use Rattle.std.proofs.Common.{arith, ◌≡◌, ◌==◌, ℕ, ◌+◌, ◌<◌, ◌≤◌, true, false, cond, ◌||◌, List, [], ◌∷◌, ◌++◌, length, get_or, take, drop, Some, None, refl, sym, ap, ◌∙◌}
 use Rattle.std.proofs.lemmas.Bool.{cond-true, cond-false}
 use Rattle.std.proofs.lemmas.List.{drop_more, take_more, drop_all}
 use Rattle.dt_graph.specs.Graph.{has_number}
 use Rattle.dt_graph.specs.GraphChange.{first_repeated}
-use Rattle.dt_graph.proofs.LinkLists.{or_swap}
 
 -- only which numbers are earlier counts, and not their order
 same_earlier : (first second numbers : List ℕ) → ((n : ℕ) → has_number first n ≡ has_number second n) → first_repeated first numbers ≡ first_repeated second numbers
@@ -14,7 +13,7 @@ same_earlier first second (x ∷ numbers) same =
 
 has_number-end : (numbers : List ℕ) (x n : ℕ) → has_number (x ∷ numbers) n ≡ has_number (numbers ++ x ∷ []) n
 has_number-end [] x n = refl
-has_number-end (y ∷ numbers) x n = or_swap (x == n) (y == n) (has_number numbers n) ∙ ap (λ b. (y == n) || b) (has_number-end numbers x n)
+has_number-end (y ∷ numbers) x n = let h = has_number-end numbers x n in grind arith
 
 -- the number at this place is earlier too
 pub repeated_here : (numbers : List ℕ) (i x : ℕ) → i < length numbers → x ≡ get_or numbers i x → first_repeated [] numbers ≡ first_repeated (take i numbers) (drop i numbers) → has_number (take i numbers) x ≡ true → first_repeated [] numbers ≡ Some x

@@ -119,12 +119,7 @@ links_back class (l ∷ links) u =
 
 no_links_of : (class : ℕ) (links : List Link) → parents_of links class ≡ [] → filter (λ (l : Link). not (eqb l.class class)) links ≡ links
 no_links_of class [] h = refl
-no_links_of class (l ∷ links) h =
-    elim (eqb l.class class) as (λ t. cond t (l.parent ∷ parents_of links class) (parents_of links class) ≡ []
-    → cond (not t) (l ∷ filter (λ (l : Link). not (eqb l.class class)) links) (filter (λ (l : Link). not (eqb l.class class)) links) ≡ l ∷ links) [
-      | true ↦ λ none. absurd cc
-      | false ↦ λ none. ap (λ ls. l ∷ ls) (no_links_of class links none)
-    ] h
+no_links_of class (l ∷ links) h = let r = no_links_of class links in grind arith
 
 back_live : (old : Graph) (class : ℕ) → LawfulGraph old → is_live old class ≡ true
     → add_effect (drop_effect old class) class (parents_of old.links class) ≡ old

@@ -10,10 +10,10 @@ use Rattle.dt_graph.specs.GraphChange.{add_effect, drop_effect, link_effect, unl
 use Rattle.dt_graph.specs.LinkChanges.{is_below_any, OthersKeepTheirLinks}
 use Rattle.dt_graph.proofs.BelowSets.{edited_is_below_any, others_stay_below}
 use Rattle.dt_graph.proofs.Effects.{live_after_add, live_after_drop, live_after_link, live_after_unlink}
-use Rattle.dt_graph.proofs.ListMembers.{by_cases, In, In-from_filter, filter_agree_in, filter-weaker, list_any_agree_in}
+use Rattle.dt_graph.proofs.ListMembers.{In, In-from_filter, filter_agree_in, filter-weaker, list_any_agree_in}
 use Rattle.dt_selectors.specs.Selectors.{Selector, arity_in}
 use Rattle.dt_selectors.proofs.Arities.{adding, dropping}
-use Rattle.dt_definitions.specs.Program.{Definition, Program, arity_of, is_definition, is_definition_before, place_definition, same_classes}
+use Rattle.dt_definitions.specs.Program.{Definition, Program, arity_of, is_definition, key_of, is_key_before, is_same_key, place_definition, same_classes}
 use Rattle.dt_definitions.specs.Step.{effect, with_graph, with_selectors, with_definitions}
 use Rattle.dt_definitions.specs.Laws.{LeadsTo}
 use Rattle.dt_definitions.specs.Differing.{DifferOnlyAt, edited_by, redefined_by}
@@ -26,7 +26,10 @@ use Rattle.dt_scratch.specs.Query.{Query, arity_of_query}
 use Rattle.dt_scratch.specs.Resolve.{are_below, applicable, is_more_specific, minimal, answer_by, answer, first_dead, reply, reply_by_classes, reply_by_arity}
 use Rattle.dt_scratch.specs.Locality.{meets, reaches_up_to, concerns, batch_concerns}
 use Rattle.dt_scratch.specs.LocalityLaws.{EditsChangeWhatTheyConcern, EditsConcernTheSameAfter, BatchesChangeWhatTheyConcern}
-use Rattle.dt_scratch.proofs.MoreSpecific.{same_from_classes}
+use Rattle.std.proofs.Math.Bool.{or-false}
+use Rattle.dt_graph.proofs.SameLists.{same_list_equal}
+use Rattle.dt_graph.proofs.InOrder.{placed}
+use Rattle.dt_definitions.proofs.DefinitionOrder.{key_order}
 use Rattle.dt_scratch.proofs.Unmet.{unmet_stay, unmet_above, same_meet}
 
 -- ---- another graph
@@ -97,13 +100,11 @@ filter-place : (p : Definition → Bool) (definition : Definition) → ((d : Def
     (ds : List Definition) → filter p (place_definition definition ds) ≡ filter p ds
 filter-place p definition none [] = rw (none definition refl refl) refl
 filter-place p definition none (d ∷ ds) =
-    by_cases (is_definition_before definition d)
-    (λ e. rw (e, none definition refl refl) refl)
-    (λ e. by_cases (is_definition definition.selector definition.classes d)
-    (λ g. let same = and_parts _ _ g in
-    let passed = none d (eqb-true _ _ same.0) (same_from_classes d.classes definition.classes same.1) in
-    rw (e, g, none definition refl refl, passed) refl)
-    (λ g. rw (e, g, filter-place p definition none ds) refl))
+    placed key_of is_key_before is_same_key key_order (λ ys. filter p ys ≡ filter p (d ∷ ds)) definition d ds
+    (λ _. rw (none definition refl refl) refl)
+    (λ _ g. let same = and_parts _ _ g in
+    rw (none definition refl refl, none d (eqb-true _ _ same.0) (same_list_equal d.classes definition.classes same.1)) refl)
+    (λ _ _. rw (filter-place p definition none ds) refl)
 
 -- nor does taking away one that the filter passes over
 filter-without : (p q : Definition → Bool) → ((d : Definition) → q d ≡ true → p d ≡ false) →
@@ -140,20 +141,16 @@ module _ (p : Program) (query : Query) (selector : ℕ) (classes : List ℕ)
       same_found p (filter (λ d. not (is_definition selector classes d)) p.definitions) query
       (filter-without applies (is_definition selector classes)
       (λ d e. let same = and_parts _ _ e in
-      not_at_its_key d (eqb-true d.selector selector same.0) (same_from_classes d.classes classes same.1)) p.definitions)
+      not_at_its_key d (eqb-true d.selector selector same.0) (same_list_equal d.classes classes same.1)) p.definitions)
 
 -- ---- one edit
-
-or_none : (b : Bool) → (b || false) ≡ b
-or_none true = refl
-or_none false = refl
 
 -- a query reaches up to a class where it meets the list of that class alone
 one_is_met : (links : List Link) (class : ℕ) (lows : List ℕ) →
     meets links (class ∷ []) lows ≡ list_any (λ low. is_below links low class) lows
 one_is_met links class [] = refl
 one_is_met links class (low ∷ lows) =
-    ap (λ b. b || meets links (class ∷ []) lows) (or_none (is_below links low class))
+    ap (λ b. b || meets links (class ∷ []) lows) (or-false (is_below links low class))
     ∙ ap (λ b. is_below links low class || b) (one_is_met links class lows)
 
 other_than : (class other : ℕ) → has_number (class ∷ []) other ≡ false → (class == other) ≡ false

@@ -11,7 +11,8 @@ use Rattle.dt_scratch.specs.Among.{IsTransitive}
 use Rattle.dt_scratch.specs.Query.{Query}
 use Rattle.dt_scratch.specs.Resolve.{are_below, applicable, is_more_specific, minimal, answer_by, answer}
 use Rattle.dt_scratch.specs.Laws.{IsLowest, LowestAnswers, MethodsAreInRange, MethodsAreLowest, NotUnderstoodWhereNone}
-use Rattle.dt_scratch.proofs.MoreSpecific.{is_more_specific-irreflexive, is_more_specific-transitive, same_classes-refl, same_from_classes}
+use Rattle.dt_scratch.proofs.MoreSpecific.{is_more_specific-irreflexive, is_more_specific-transitive}
+use Rattle.dt_graph.proofs.SameLists.{same_list-self, same_list_equal}
 use Rattle.dt_graph.proofs.ListMembers.{In, All-In, All-from_In, Contains-from_In, In-from_Contains, In-filter, In-from_filter, none_from, filter-filter, filter_fewer}
 use Rattle.dt_graph.proofs.Walks.{is_below_self, is_below_trans}
 use Rattle.dt_graph.proofs.LawfulChanges.{antisymmetric}
@@ -87,7 +88,7 @@ module _ (links : List Link) (chains : IsTransitive links) (reflexive : (class :
         other_way : (d other : Definition) → less other d ≡ true → not (same_classes d.classes other.classes) ≡ true
         other_way d other l = not_from_false _ (false_from_ne_true _ (λ s.
             both_ways (less other d) (subst (λ v. (not (same_classes other.classes v) && are_below links other.classes v) ≡ false)
-            (sym (same_from_classes d.classes other.classes s)) (is_more_specific-irreflexive links other.classes)) l))
+            (sym (same_list_equal d.classes other.classes s)) (is_more_specific-irreflexive links other.classes)) l))
 
     -- and is more specific than all that have other classes
     same_if_not_less : (d other : Definition) → In found other → IsBelowAll d → not (less d other) ≡ true →
@@ -120,7 +121,7 @@ module _ (program : Program) (lawful : Lawful program) where
       let fewer = filter_fewer (λ d. found d && at d) (is_definition query.selector classes) program.definitions
       (λ d i e. let h = and_parts (found d) (at d) e in
       and_from (d.selector == query.selector) (same_classes d.classes classes) (and_parts _ _ h.0).0
-      (subst (λ cs. same_classes cs classes ≡ true) (same_from_classes classes d.classes h.1) (same_classes-refl classes))) in
+      (subst (λ cs. same_classes cs classes ≡ true) (same_list_equal classes d.classes h.1) (same_list-self classes))) in
       omega (
         arith,
         ap length (filter-filter found at program.definitions),

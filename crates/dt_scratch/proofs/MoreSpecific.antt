@@ -1,29 +1,16 @@
 -- More specific is a strict order on lists of classes.
 use Rattle.std.proofs.Common.{◌≡◌, ℕ, true, false, IsTrue, List, [], ◌∷◌, refl, sym, subst}
-use Rattle.std.proofs.lemmas.Bool.{false≢true, and_parts, and_from, eqb-true, eq-eqb, both_ways, false_from_ne_true, not-true, not_from_false}
+use Rattle.std.proofs.lemmas.Bool.{false≢true, and_parts, and_from, eq-eqb, both_ways, false_from_ne_true, not-true, not_from_false}
 use Rattle.dt_graph.specs.Graph.{Link}
 use Rattle.dt_graph.specs.Below.{is_below}
 use Rattle.dt_definitions.specs.Program.{same_classes}
+use Rattle.dt_graph.proofs.SameLists.{same_list-self, same_list_equal}
 use Rattle.dt_scratch.specs.Resolve.{are_below, is_more_specific_at}
 use Rattle.dt_scratch.specs.Among.{IsTransitive}
 
-pub same_classes-refl : (xs : List ℕ) → same_classes xs xs ≡ true
-same_classes-refl [] = refl
-same_classes-refl (x ∷ xs) = and_from _ _ (eq-eqb x x refl) (same_classes-refl xs)
-
-pub same_from_classes : (xs ys : List ℕ) → same_classes xs ys ≡ true → xs ≡ ys
-same_from_classes [] [] e = refl
-same_from_classes [] (y ∷ ys) e = absurd (false≢true e)
-same_from_classes (x ∷ xs) [] e = absurd (false≢true e)
-same_from_classes (x ∷ xs) (y ∷ ys) e =
-    let h = and_parts _ _ e in
-    let p = eqb-true x y h.0 in
-    let q = same_from_classes xs ys h.1 in
-    cc
-
 -- no list of classes is more specific than itself
 pub is_more_specific-irreflexive : (links : List Link) (xs : List ℕ) → is_more_specific_at links xs xs ≡ false
-is_more_specific-irreflexive links xs = rw (same_classes-refl xs) refl
+is_more_specific-irreflexive links xs = rw (same_list-self xs) refl
 
 module _ (links : List Link)
     (antisymmetric : (a b : ℕ) → IsTrue (is_below links a b) → IsTrue (is_below links b a) → a ≡ b)
@@ -57,5 +44,5 @@ module _ (links : List Link)
       and_from _ _
       (not_from_false _ (false_from_ne_true _ (λ s.
       both_ways (same_classes xs ys) (not-true _ g.0) (are_below-antisym xs ys g.1
-      (subst (λ v. are_below links ys v ≡ true) (sym (same_from_classes xs zs s)) h.1)))))
+      (subst (λ v. are_below links ys v ≡ true) (sym (same_list_equal xs zs s)) h.1)))))
       (are_below-trans xs ys zs g.1 h.1)
