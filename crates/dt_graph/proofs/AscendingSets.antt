@@ -1,9 +1,10 @@
 -- Ascending lists as sets: lists with the same numbers are equal, and the first number from a bound on.
 use Rattle.std.proofs.Common.{◌≡◌, ◌==◌, ℕ, ◌+◌, ◌<◌, ◌≤◌, Bool, true, false, ◌&&◌, ◌||◌, IsTrue, nat_le, List, [], ◌∷◌, ◌++◌, None, Some, All, filter, refl, sym, ap, ◌∙◌, ⊎_elim, arith, eq-eqb, ne_eqb, eqb-true, ltb-true, inl, inr, append_assoc, append-nil}
-use Rattle.std.proofs.lemmas.Bool.{or_cases, or_left, or_right, or_parts, or_from, cases_Bool, cases_eq, cases_order, cond-true, cond-false, false≢true, true≢false, false_from_ne_true, le-leb, lt-leb, leb-true, leb-false}
+use Rattle.std.proofs.lemmas.Bool.{or_cases, or_left, or_right, or_parts, or_from, cases_Bool, cases_eq, cases_order, cond-true, cond-false, false≢true, true≢false, false_from_ne_true, leb-true, leb-false}
 use Rattle.dt_graph.specs.Graph.{has_number}
 use Rattle.dt_graph.specs.Lawful.{AscendingNumbers}
 use Rattle.dt_graph.specs.FirstFrom.{first_from}
+use Rattle.std.proofs.lemmas.Bool.Decides.{nat_tests}
 use Rattle.dt_graph.proofs.LinkLists.{each_number}
 use Rattle.dt_graph.proofs.Ascending.{first_is_lowest}
 
@@ -113,26 +114,13 @@ first_bounds numbers least number limit ascending all found =
 pub first_none : (numbers : List ℕ) (least : ℕ) → first_from least numbers ≡ None → (n : ℕ) → least ≤ n → has_number numbers n ≡ false
 first_none [] least none n from = refl
 first_none (a ∷ numbers) least none n from =
-    elim (cases_Bool (nat_le least a)) [
-      | inl enough ↦
-          let found : Some a ≡ None = sym (cond-true (nat_le least a) (Some a) (first_from least numbers) enough) ∙ none in
-          absurd cc
-      | inr low ↦
-          let order = leb-false least a low in
-          or_from (a == n) (has_number numbers n) (ne_eqb a n (λ e. omega arith))
-          (first_none numbers least (sym (cond-false (nat_le least a) (Some a) (first_from least numbers) low) ∙ none) n from)
-    ]
+    let rest : first_from least numbers ≡ None → has_number numbers n ≡ false = λ later. first_none numbers least later n from in grind (arith, nat_tests)
 
 pub is_first_none : (numbers : List ℕ) (least : ℕ) → ((n : ℕ) → least ≤ n → has_number numbers n ≡ false) → first_from least numbers ≡ None
 is_first_none [] least none = refl
 is_first_none (a ∷ numbers) least none =
-    elim (cases_Bool (nat_le least a)) [
-      | inl enough ↦
-          absurd (true≢false (sym (or_left (a == a) (has_number numbers a) (eq-eqb a a refl)) ∙ none a (leb-true least a enough)))
-      | inr low ↦
-          cond-false (nat_le least a) (Some a) (first_from least numbers) low
-          ∙ is_first_none numbers least (λ n from. (or_parts (a == n) (has_number numbers n) (none n from)).1)
-    ]
+    let own = none a in
+    let rest = is_first_none numbers least (λ n from. (or_parts (a == n) (has_number numbers n) (none n from)).1) in grind (arith, nat_tests)
 
 pub is_first_some : (numbers : List ℕ) (least number : ℕ) → AscendingNumbers numbers → IsFirstFrom numbers least number → first_from least numbers ≡ Some number
 is_first_some [] least number ascending first = absurd (false≢true first.listed)
@@ -168,47 +156,26 @@ from_on least numbers = filter (λ n. nat_le least n) numbers
 
 pub from_on_all : (numbers : List ℕ) → from_on 0 numbers ≡ numbers
 from_on_all [] = refl
-from_on_all (a ∷ numbers) =
-    cond-true (nat_le 0 a) (a ∷ from_on 0 numbers) (from_on 0 numbers) (le-leb 0 a (omega arith)) ∙ ap (λ ns. a ∷ ns) (from_on_all numbers)
+from_on_all (a ∷ numbers) = let rest = from_on_all numbers in grind (arith, nat_tests)
 
 -- all that come after the first are above it
 from_on_rest : (a : ℕ) (numbers : List ℕ) (least : ℕ) → AscendingNumbers (a ∷ numbers) → least ≤ a + 1 → from_on least numbers ≡ numbers
 from_on_rest a [] least ascending low = refl
 from_on_rest a (b ∷ numbers) least ascending low =
     let order = ltb-true a b ascending.0 in
-    cond-true (nat_le least b) (b ∷ from_on least numbers) (from_on least numbers) (le-leb least b (omega arith))
-    ∙ ap (λ ns. b ∷ ns) (from_on_rest b numbers least ascending.1 (omega arith))
+    let rest = from_on_rest b numbers least ascending.1 (omega arith) in grind (arith, nat_tests)
 
 pub from_on_some : (numbers : List ℕ) (least number : ℕ) → AscendingNumbers numbers → first_from least numbers ≡ Some number → from_on least numbers ≡ number ∷ from_on (number + 1) numbers
 from_on_some [] least number ascending found = absurd cc
 from_on_some (a ∷ numbers) least number ascending found =
     let more = (first_some (a ∷ numbers) least number ascending found).more in
-    elim (cases_Bool (nat_le least a)) [
-      | inl enough ↦
-          let here : a ≡ number = some_same a number (sym (cond-true (nat_le least a) (Some a) (first_from least numbers) enough) ∙ found) in
-          let order = leb-true least a enough in
-          cond-true (nat_le least a) (a ∷ from_on least numbers) (from_on least numbers) enough
-          ∙ ap (λ ns. a ∷ ns) (from_on_rest a numbers least ascending (omega arith) ∙ sym (from_on_rest a numbers (number + 1) ascending (omega arith)))
-          ∙ ap (λ x. x ∷ from_on (number + 1) numbers) here
-          ∙ ap (λ ns. number ∷ ns) (sym (cond-false (nat_le (number + 1) a) (a ∷ from_on (number + 1) numbers) (from_on (number + 1) numbers) (lt-leb (number + 1) a (omega arith))))
-      | inr low ↦
-          let order = leb-false least a low in
-          cond-false (nat_le least a) (a ∷ from_on least numbers) (from_on least numbers) low
-          ∙ from_on_some numbers least number (ascending_tail a numbers ascending) (sym (cond-false (nat_le least a) (Some a) (first_from least numbers) low) ∙ found)
-          ∙ ap (λ ns. number ∷ ns) (sym (cond-false (nat_le (number + 1) a) (a ∷ from_on (number + 1) numbers) (from_on (number + 1) numbers) (lt-leb (number + 1) a (omega arith))))
-    ]
+    let later = from_on_some numbers least number (ascending_tail a numbers ascending) in
+    let here = from_on_rest a numbers least ascending in
+    let above = from_on_rest a numbers (number + 1) ascending in grind (arith, nat_tests)
 
 pub from_on_none : (numbers : List ℕ) (least : ℕ) → first_from least numbers ≡ None → from_on least numbers ≡ []
 from_on_none [] least none = refl
-from_on_none (a ∷ numbers) least none =
-    elim (cases_Bool (nat_le least a)) [
-      | inl enough ↦
-          let found : Some a ≡ None = sym (cond-true (nat_le least a) (Some a) (first_from least numbers) enough) ∙ none in
-          absurd cc
-      | inr low ↦
-          cond-false (nat_le least a) (a ∷ from_on least numbers) (from_on least numbers) low
-          ∙ from_on_none numbers least (sym (cond-false (nat_le least a) (Some a) (first_from least numbers) low) ∙ none)
-    ]
+from_on_none (a ∷ numbers) least none = let rest = from_on_none numbers least in grind (arith, nat_tests)
 
 -- ---- a walk over the numbers
 

@@ -1,5 +1,5 @@
 -- Which numbers and links stand in a list after one is placed there or some are left out.
-use Rattle.std.proofs.Common.{◌≡◌, ◌==◌, ℕ, ◌+◌, ◌≤◌, Bool, true, false, cond, ◌||◌, ◌&&◌, IsTrue, List, [], ◌∷◌, length, filter, refl, sym, ap, subst, ◌∙◌, ◌⊎◌, inl, inr, ⊎_elim, eqb-true, eq-eqb, nat_lt, arith, All}
+use Rattle.std.proofs.Common.{◌≡◌, ◌==◌, ℕ, ◌+◌, ◌≤◌, Bool, true, false, cond, ◌||◌, ◌&&◌, IsTrue, List, [], ◌∷◌, length, filter, refl, sym, ap, subst, ◌∙◌, ◌⊎◌, inl, inr, ⊎_elim, eqb-true, eq-eqb, arith, All}
 use Rattle.std.proofs.lemmas.Bool.{or_cases, or_left, or_right, and_parts, and_from, false≢true, cond_both}
 use Rattle.std.proofs.lemmas.Bool.Decides.{nat_tests}
 use Rattle.std.proofs.lemmas.List.Elements.{All-nil, All-cons, All-head, All-tail}
@@ -123,9 +123,4 @@ parent_count-filter test (l ∷ links) class = cond_both (test l) (l ∷ filter 
 -- one is placed, so there is one more at most
 pub length-placed : (new : ℕ) (numbers : List ℕ) → length (place_number new numbers) ≤ length numbers + 1
 length-placed new [] = omega arith
-length-placed new (n ∷ numbers) = cond_both (nat_lt new n) (new ∷ n ∷ numbers) (cond (new == n) (new ∷ numbers) (n ∷ place_number new numbers))
-    (λ ns. length ns ≤ length (n ∷ numbers) + 1)
-    (λ _. omega arith)
-    (λ _. cond_both (new == n) (new ∷ numbers) (n ∷ place_number new numbers) (λ ns. length ns ≤ length (n ∷ numbers) + 1)
-    (λ _. omega arith)
-    (λ _. omega (arith, length-placed new numbers)))
+length-placed new (n ∷ numbers) = let h = length-placed new numbers in grind (arith, nat_tests)

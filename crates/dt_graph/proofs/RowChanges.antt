@@ -1,5 +1,5 @@
 -- What a change of one row does to the live classes and to the links.
-use Rattle.std.proofs.Common.{◌≡◌, ◌==◌, ◌≢◌, ℕ, zero, suc, ◌+◌, ◌<◌, true, false, cond, not, List, [], ◌∷◌, ◌++◌, length, get_or, set, filter, refl, sym, ap, ◌∙◌, nat_lt, eq-eqb, ne_eqb, lt-ltb, le-ltb, arith, set-set, length-set, get_or-set_same}
+use Rattle.std.proofs.Common.{◌≡◌, ◌==◌, ◌≢◌, ℕ, zero, suc, ◌+◌, ◌<◌, true, false, not, List, [], ◌∷◌, ◌++◌, length, get_or, set, filter, refl, sym, ap, ◌∙◌, eq-eqb, ne_eqb, lt-ltb, le-ltb, arith, set-set, length-set, get_or-set_same}
 use Rattle.std.proofs.lemmas.Bool.Decides.{nat_tests}
 use Rattle.std.proofs.lemmas.List.Elements.{filter-append}
 use Rattle.dt_graph.specs.Graph.{Link, is_link, place_number, place_link, place_links}
@@ -17,53 +17,29 @@ live_from-same (r ∷ rows) k (suc i) row d same inside = rw (live_from-same row
 place_number-first : (rows : List Row) (k q : ℕ) → q < k → place_number q (live_from k rows) ≡ q ∷ live_from k rows
 place_number-first [] k q before = refl
 place_number-first (r ∷ rows) k q before =
-    let rest = place_number-first rows (k + 1) q (omega arith) in
-    elim r.is_live as (λ b. place_number q (cond b (k ∷ live_from (k + 1) rows) (live_from (k + 1) rows)) ≡ q ∷ cond b (k ∷ live_from (k + 1) rows) (live_from (k + 1) rows)) [
-      | true ↦ rw (lt-ltb q k before) refl
-      | false ↦ rest
-    ]
+    let rest = place_number-first rows (k + 1) q (omega arith) in grind (arith, nat_tests)
 
 -- a row that becomes live
 pub live_from-placed : (rows : List Row) (k i q : ℕ) (row : Row) → q ≡ k + i → i < length rows → row.is_live ≡ true → live_from k (set rows i row) ≡ place_number q (live_from k rows)
 live_from-placed [] k i q row at inside live = absurd (omega arith)
 live_from-placed (r ∷ rows) k zero q row at inside live =
     let here : q ≡ k = omega arith in
-    let first = place_number-first rows (k + 1) q (omega arith) in
-    rw (live, ← here) (elim r.is_live as (λ b. q ∷ live_from (q + 1) rows ≡ place_number q (cond b (q ∷ live_from (q + 1) rows) (live_from (q + 1) rows))) [
-      | true ↦ rw (le-ltb q q (omega arith), eq-eqb q q refl) refl
-      | false ↦ sym (rw here (place_number-first rows (k + 1) k (omega arith)))
-    ])
+    let first = place_number-first rows (k + 1) k (omega arith) in grind (arith, nat_tests)
 live_from-placed (r ∷ rows) k (suc i) q row at inside live =
-    let rest = live_from-placed rows (k + 1) i q row (omega arith) (omega arith) live in
-    rw rest (elim r.is_live as (λ b. cond b (k ∷ place_number q (live_from (k + 1) rows)) (place_number q (live_from (k + 1) rows)) ≡ place_number q (cond b (k ∷ live_from (k + 1) rows) (live_from (k + 1) rows))) [
-      | true ↦ rw (le-ltb q k (omega arith), ne_eqb q k (omega arith)) refl
-      | false ↦ refl
-    ])
+    let rest = live_from-placed rows (k + 1) i q row (omega arith) (omega arith) live in grind (arith, nat_tests)
 
 drop_number-none : (rows : List Row) (k q : ℕ) → q < k → filter (λ c. not (c == q)) (live_from k rows) ≡ live_from k rows
 drop_number-none [] k q before = refl
 drop_number-none (r ∷ rows) k q before =
-    let rest = drop_number-none rows (k + 1) q (omega arith) in
-    elim r.is_live as (λ b. filter (λ c. not (c == q)) (cond b (k ∷ live_from (k + 1) rows) (live_from (k + 1) rows)) ≡ cond b (k ∷ live_from (k + 1) rows) (live_from (k + 1) rows)) [
-      | true ↦ rw (ne_eqb k q (omega arith)) (ap (λ cs. k ∷ cs) rest)
-      | false ↦ rest
-    ]
+    let rest = drop_number-none rows (k + 1) q (omega arith) in grind (arith, nat_tests)
 
 -- a row that isn't live any more
 pub live_from-dropped : (rows : List Row) (k i q : ℕ) (row : Row) → q ≡ k + i → i < length rows → row.is_live ≡ false → live_from k (set rows i row) ≡ filter (λ c. not (c == q)) (live_from k rows)
 live_from-dropped [] k i q row at inside live = absurd (omega arith)
 live_from-dropped (r ∷ rows) k zero q row at inside live =
-    let rest = drop_number-none rows (k + 1) q (omega arith) in
-    rw live (elim r.is_live as (λ b. live_from (k + 1) rows ≡ filter (λ c. not (c == q)) (cond b (k ∷ live_from (k + 1) rows) (live_from (k + 1) rows))) [
-      | true ↦ rw (eq-eqb k q (omega arith)) (sym rest)
-      | false ↦ sym rest
-    ])
+    let rest = drop_number-none rows (k + 1) q (omega arith) in grind (arith, nat_tests)
 live_from-dropped (r ∷ rows) k (suc i) q row at inside live =
-    let rest = live_from-dropped rows (k + 1) i q row (omega arith) (omega arith) live in
-    rw rest (elim r.is_live as (λ b. cond b (k ∷ filter (λ c. not (c == q)) (live_from (k + 1) rows)) (filter (λ c. not (c == q)) (live_from (k + 1) rows)) ≡ filter (λ c. not (c == q)) (cond b (k ∷ live_from (k + 1) rows) (live_from (k + 1) rows))) [
-      | true ↦ rw (ne_eqb k q (omega arith)) refl
-      | false ↦ refl
-    ])
+    let rest = live_from-dropped rows (k + 1) i q row (omega arith) (omega arith) live in grind (arith, nat_tests)
 
 -- ---- the links
 
@@ -84,22 +60,10 @@ place_link-first [] k q p before = refl
 place_link-first (r ∷ rows) k q p before =
     before_links_to k q p r.parents.items (links_from (k + 1) rows) before (place_link-first rows (k + 1) q p (omega arith))
 
-same_either_way : (a b : ℕ) → (a == b) ≡ (b == a)
-same_either_way a b = grind (arith, nat_tests)
-
 -- a link of the class itself is placed among its own
 place_link-own : (rows : List Row) (k p : ℕ) (ps : List ℕ) → place_link (record { class = k; parent = p }) (links_to k ps ++ links_from (k + 1) rows) ≡ links_to k (place_number p ps) ++ links_from (k + 1) rows
 place_link-own rows k p [] = place_link-first rows (k + 1) k p (omega arith)
-place_link-own rows k p (x ∷ ps) =
-    let rest = place_link-own rows k p ps in
-    rw (le-ltb k k (omega arith), eq-eqb k k refl, same_either_way x p)
-    (elim (nat_lt p x) as (λ b. cond b (record { class = k; parent = p } ∷ record { class = k; parent = x } ∷ links_to k ps ++ links_from (k + 1) rows) (cond (p == x) (record { class = k; parent = p } ∷ links_to k ps ++ links_from (k + 1) rows) (record { class = k; parent = x } ∷ place_link (record { class = k; parent = p }) (links_to k ps ++ links_from (k + 1) rows))) ≡ links_to k (cond b (p ∷ x ∷ ps) (cond (p == x) (p ∷ ps) (x ∷ place_number p ps))) ++ links_from (k + 1) rows) [
-      | true ↦ refl
-      | false ↦ elim (p == x) as (λ b. cond b (record { class = k; parent = p } ∷ links_to k ps ++ links_from (k + 1) rows) (record { class = k; parent = x } ∷ place_link (record { class = k; parent = p }) (links_to k ps ++ links_from (k + 1) rows)) ≡ links_to k (cond b (p ∷ ps) (x ∷ place_number p ps)) ++ links_from (k + 1) rows) [
-        | true ↦ refl
-        | false ↦ ap (λ ls. record { class = k; parent = x } ∷ ls) rest
-      ]
-    ])
+place_link-own rows k p (x ∷ ps) = let rest = place_link-own rows k p ps in grind (arith, nat_tests)
 
 -- a link of a later class is placed after these
 place_link-later : (k q p : ℕ) (ps : List ℕ) (links : List Link) → k < q → place_link (record { class = q; parent = p }) (links_to k ps ++ links) ≡ links_to k ps ++ place_link (record { class = q; parent = p }) links
@@ -171,12 +135,7 @@ other_class_keeps k q p (x ∷ ps) other = rw (ne_eqb k q other) (ap (λ ls. rec
 
 own_link_goes : (k p : ℕ) (ps : List ℕ) → filter (λ l. not (is_link k p l)) (links_to k ps) ≡ links_to k (filter (λ x. not (x == p)) ps)
 own_link_goes k p [] = refl
-own_link_goes k p (x ∷ ps) =
-    rw (eq-eqb k k refl, own_link_goes k p ps)
-    (elim (x == p) as (λ b. cond (not b) (record { class = k; parent = x } ∷ links_to k (filter (λ x. not (x == p)) ps)) (links_to k (filter (λ x. not (x == p)) ps)) ≡ links_to k (cond (not b) (x ∷ filter (λ x. not (x == p)) ps) (filter (λ x. not (x == p)) ps))) [
-      | true ↦ refl
-      | false ↦ refl
-    ])
+own_link_goes k p (x ∷ ps) = let rest = own_link_goes k p ps in grind (arith, nat_tests)
 
 unlink-none : (rows : List Row) (k q p : ℕ) → q < k → filter (λ l. not (is_link q p l)) (links_from k rows) ≡ links_from k rows
 unlink-none [] k q p before = refl

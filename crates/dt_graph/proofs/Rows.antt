@@ -1,6 +1,6 @@
 -- Rows of a class graph against what they stand for. Row i, from the front, of rows from class k is that of class q.
-use Rattle.std.proofs.Common.{◌≡◌, ◌==◌, ℕ, zero, suc, ◌+◌, ◌<◌, true, false, cond, List, [], ◌∷◌, ◌++◌, length, get_or, refl, sym, ap, ◌∙◌, eq-eqb, ne_eqb, arith, append-nil, replicate}
-use Rattle.std.proofs.lemmas.Bool.{cond-false}
+use Rattle.std.proofs.Common.{◌≡◌, ◌==◌, ℕ, zero, suc, ◌+◌, ◌<◌, false, cond, List, [], ◌∷◌, ◌++◌, length, get_or, refl, sym, ap, ◌∙◌, eq-eqb, ne_eqb, arith, append-nil, replicate}
+use Rattle.std.proofs.lemmas.Bool.Decides.{nat_tests}
 use Rattle.dt_graph.specs.Graph.{Graph, empty_graph, has_number, is_live}
 use Rattle.dt_graph.specs.GraphRows.{live_from, links_to, links_from, graph_of}
 use Rattle.dt_graph.specs.Parents.{parents_of}
@@ -11,36 +11,20 @@ use Rattle.dt_graph.proofs.ParentLists.{parents_of-append}
 pub live_from-before : (rows : List Row) (k q : ℕ) → q < k → has_number (live_from k rows) q ≡ false
 live_from-before [] k q before = refl
 live_from-before (row ∷ rows) k q before =
-    let rest = live_from-before rows (k + 1) q (omega arith) in
-    elim row.is_live as (λ b. has_number (cond b (k ∷ live_from (k + 1) rows) (live_from (k + 1) rows)) q ≡ false) [
-      | true ↦ rw (ne_eqb k q (omega arith)) rest
-      | false ↦ rest
-    ]
+    let rest = live_from-before rows (k + 1) q (omega arith) in grind (arith, nat_tests)
 
 -- a class is live where its row says so
 pub live_from-at : (rows : List Row) (k i q : ℕ) (d : Row) → q ≡ k + i → i < length rows → has_number (live_from k rows) q ≡ (get_or rows i d).is_live
 live_from-at [] k i q d at inside = absurd (omega arith)
 live_from-at (row ∷ rows) k zero q d at inside =
-    let rest = live_from-before rows (k + 1) q (omega arith) in
-    elim row.is_live as (λ b. has_number (cond b (k ∷ live_from (k + 1) rows) (live_from (k + 1) rows)) q ≡ b) [
-      | true ↦ rw (eq-eqb k q (omega arith)) refl
-      | false ↦ rest
-    ]
+    let rest = live_from-before rows (k + 1) q (omega arith) in grind (arith, nat_tests)
 live_from-at (row ∷ rows) k (suc i) q d at inside =
-    let rest = live_from-at rows (k + 1) i q d (omega arith) (omega arith) in
-    elim row.is_live as (λ b. has_number (cond b (k ∷ live_from (k + 1) rows) (live_from (k + 1) rows)) q ≡ (get_or rows i d).is_live) [
-      | true ↦ rw (ne_eqb k q (omega arith)) rest
-      | false ↦ rest
-    ]
+    let rest = live_from-at rows (k + 1) i q d (omega arith) (omega arith) in grind (arith, nat_tests)
 
 -- the links of a class to these parents list them, and those of other classes list none
 pub parents_of-links_to : (class : ℕ) (parents : List ℕ) (q : ℕ) → parents_of (links_to class parents) q ≡ cond (class == q) parents []
-parents_of-links_to class [] q =
-    let none : List ℕ = [] in
-    elim (class == q) as (λ b. none ≡ cond b none none) [ true ↦ refl | false ↦ refl ]
-parents_of-links_to class (parent ∷ parents) q =
-    rw (parents_of-links_to class parents q)
-    (elim (class == q) as (λ b. cond b (parent ∷ cond b parents []) (cond b parents []) ≡ cond b (parent ∷ parents) []) [ true ↦ refl | false ↦ refl ])
+parents_of-links_to class [] q = grind arith
+parents_of-links_to class (parent ∷ parents) q = let rest = parents_of-links_to class parents q in grind arith
 
 -- a class before the first row has no parents
 pub links_from-before : (rows : List Row) (k q : ℕ) → q < k → parents_of (links_from k rows) q ≡ []
@@ -75,9 +59,7 @@ parents_of-read graph rows row n q shown same inside read =
 -- rows with nothing in them
 pub no_live-replicate : (n k : ℕ) (row : Row) → row.is_live ≡ false → live_from k (replicate n row) ≡ []
 no_live-replicate zero k row none = refl
-no_live-replicate (suc n) k row none =
-    cond-false row.is_live (k ∷ live_from (k + 1) (replicate n row)) (live_from (k + 1) (replicate n row)) none
-    ∙ no_live-replicate n (k + 1) row none
+no_live-replicate (suc n) k row none = let rest = no_live-replicate n (k + 1) row none in grind arith
 
 pub no_links-replicate : (n k : ℕ) (row : Row) → row.parents.items ≡ [] → links_from k (replicate n row) ≡ []
 no_links-replicate zero k row none = refl

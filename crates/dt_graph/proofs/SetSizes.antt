@@ -1,6 +1,7 @@
 -- How many numbers a set has when one comes or goes, and that they are no more than the limit.
-use Rattle.std.proofs.Common.{◌≡◌, ◌==◌, ℕ, ◌+◌, ◌<◌, ◌≤◌, false, cond, not, ◌&&◌, ◌||◌, nat_lt, IsTrue, List, [], ◌∷◌, length, refl, sym, ap, ◌∙◌, arith, eq-eqb, ne_eqb, eqb-true, ltb-true, inl, inr}
-use Rattle.std.proofs.lemmas.Bool.{or_left, or_right, or_parts, and_right, cases_eq, cond_both, true≢false}
+use Rattle.std.proofs.Common.{◌≡◌, ◌==◌, ℕ, ◌+◌, ◌<◌, ◌≤◌, false, not, ◌&&◌, ◌||◌, IsTrue, List, [], ◌∷◌, length, refl, sym, ap, ◌∙◌, arith, eq-eqb, ne_eqb, ltb-true, inl, inr}
+use Rattle.std.proofs.lemmas.Bool.{or_left, or_right, and_right, cases_eq}
+use Rattle.std.proofs.lemmas.Bool.Decides.{nat_tests}
 use Rattle.dt_graph.specs.Graph.{has_number, place_number}
 use Rattle.dt_graph.specs.Lawful.{AscendingNumbers}
 use Rattle.dt_graph.proofs.LinkLists.{has_number-placed}
@@ -10,13 +11,7 @@ use Rattle.dt_graph.proofs.AscendingSets.{and_true, same_numbers}
 -- one that wasn't there is one more
 pub size_placed : (new : ℕ) (numbers : List ℕ) → has_number numbers new ≡ false → length (place_number new numbers) ≡ length numbers + 1
 size_placed new [] none = refl
-size_placed new (n ∷ numbers) none =
-    cond_both (nat_lt new n) (new ∷ n ∷ numbers) (cond (new == n) (new ∷ numbers) (n ∷ place_number new numbers))
-    (λ ns. length ns ≡ length (n ∷ numbers) + 1)
-    (λ _. omega arith)
-    (λ _. cond_both (new == n) (new ∷ numbers) (n ∷ place_number new numbers) (λ ns. length ns ≡ length (n ∷ numbers) + 1)
-    (λ same. absurd (true≢false (sym (or_left (n == new) (has_number numbers new) (eq-eqb n new (sym (eqb-true new n same)))) ∙ none)))
-    (λ _. omega (arith, size_placed new numbers (or_parts (n == new) (has_number numbers new) none).1)))
+size_placed new (n ∷ numbers) none = let h = size_placed new numbers in grind (arith, nat_tests)
 
 -- without one that was there it is one less
 pub size_removed : (gone : ℕ) (old new : List ℕ) → AscendingNumbers old → AscendingNumbers new → IsTrue (has_number old gone)
