@@ -2,8 +2,9 @@
 ghost use Rattle.std.specs.Prelude.{◌<◌};
 
 use crate::running::{OVERRIDE, REPLIES, sink, source, status_of, words};
-use dt_first::outside::{Sink, Source, StdSink, StdSource};
-use dt_first::{ArgWords, OpenTurnstile, Status};
+use dt_outside::{Sink, Source, StdSink, StdSource};
+use dt_run::{OpenTurnstile, Status};
+use dt_words::ArgWords;
 use std::io;
 use std::io::{Read, Write};
 use std::test::Fail;

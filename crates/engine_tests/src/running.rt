@@ -1,8 +1,9 @@
 //! A script, the text that it gives, and what runs it.
 ghost use Rattle.std.specs.Prelude.{◌<◌};
 
-use dt_first::outside::{ListSink, ListSource, Sink, Source};
-use dt_first::{ArgWords, Status, Turnstile, run};
+use dt_outside::{ListSink, ListSource, Sink, Source};
+use dt_run::{Status, Turnstile, run};
+use dt_words::ArgWords;
 use std::alloc::Global;
 use std::thread::Threads;
 
@@ -32,12 +33,19 @@ fn failing(alloc: Global, call: u32) -> Option<Vec<u32>> {
     vec![in alloc; call].ok()
 }
 
-// A source of the script that gives so many bytes at a time and fails at this call, if it isn't 0.
+// A source of a script that gives so many bytes at a time and fails at this call, if it isn't 0.
+pub(crate) fn source_of(alloc: Global, script: &str, step: u32, call: u32) -> Option<ListSource>
+    requires { 0 < step }
+{
+    let bytes = Vec::from_slice(alloc, script.as_bytes()).ok()?;
+    Some(ListSource::new(bytes, step, failing(alloc, call)?))
+}
+
+// Such a source of the script above.
 pub(crate) fn source(alloc: Global, step: u32, call: u32) -> Option<ListSource>
     requires { 0 < step }
 {
-    let bytes = Vec::from_slice(alloc, OVERRIDE.as_bytes()).ok()?;
-    Some(ListSource::new(bytes, step, failing(alloc, call)?))
+    source_of(alloc, OVERRIDE, step, call)
 }
 
 // A sink that takes so many bytes at a time and fails at this call, if it isn't 0.

@@ -1,35 +1,43 @@
-//! A turnstile that sees each call of a caller pass.
+//! A turnstile that sees each call of two callers pass, once before it is made and once after it.
 ghost use Rattle.std.specs.Prelude.{◌<◌};
 
-use crate::running::{sink, source, status_of, words};
-use dt_first::outside::ListSource;
-use dt_first::{ArgWords, Status, Turnstile};
-use std::sync::atomic::{AtomicU32, Ordering};
+use crate::running::{sink, source_of, status_of, words};
+use dt_outside::ListSource;
+use dt_run::{Status, Turnstile};
+use dt_words::ArgWords;
+use std::sync::atomic::{AtomicU64, Ordering};
 use std::test::Fail;
 use std::thread::Threads;
 
-// A turnstile that counts the calls of caller 1, where each comes before and after its call, in order.
+// Two callers in two phases, one of which pins; a caller's calls are counted through all phases, pins aren't.
+const CALLS: &str =
+    "dispatch 1\nclass A\nselector f 1\ncaller 2\ncall f A\npin\ncall f A\ncaller 1\ncall f A\nphase\ncaller 2\nunpin\ncall f A\nend\n";
+
+// What passes, two digits a time: the caller, and its call, with 5 more after it.
+const PASSED: u64 = 2_126_222_711_162_328;
+
+// A turnstile that keeps what passes.
 #[derive(Drop)]
-struct InOrder {
-    passed: AtomicU32,
+struct Kept {
+    passed: AtomicU64,
 }
 
-impl InOrder {
-    // One more, where so many have come before.
-    fn pass(&self, caller: u16, before: u32) {
-        if caller == 1 && self.passed.load(Ordering::SeqCst) == before {
-            self.passed.store(before.wrapping_add(1), Ordering::SeqCst);
-        }
+impl Kept {
+    fn pass(&self, caller: u16, call: u64) {
+        let before = self.passed.load(Ordering::SeqCst);
+        let passing = u64::from(caller).wrapping_mul(10).wrapping_add(call);
+        let after = before.wrapping_mul(100).wrapping_add(passing);
+        self.passed.store(after, Ordering::SeqCst);
     }
 }
 
-impl Turnstile for InOrder {
+impl Turnstile for Kept {
     fn before(&self, caller: u16, call: u32) {
-        self.pass(caller, call.wrapping_mul(2).wrapping_sub(2));
+        self.pass(caller, u64::from(call));
     }
 
     fn after(&self, caller: u16, call: u32) {
-        self.pass(caller, call.wrapping_mul(2).wrapping_sub(1));
+        self.pass(caller, u64::from(call).wrapping_add(5));
     }
 }
 
@@ -37,7 +45,7 @@ fn is_done<H: Threads + Sync + AllocGlobal>(
     rt: &H,
     words: &ArgWords,
     source: &mut ListSource,
-    turnstile: &InOrder,
+    turnstile: &Kept,
 ) -> Option<bool> {
     let mut sink = sink(rt.alloc(), 64, 0)?;
     Some(status_of(rt, rt.alloc(), words, source, &mut sink, turnstile) == Status::Done)
@@ -46,17 +54,17 @@ fn is_done<H: Threads + Sync + AllocGlobal>(
 fn runs<H: Threads + Sync + AllocGlobal>(
     rt: &H,
     words: &ArgWords,
-    turnstile: &InOrder,
+    turnstile: &Kept,
 ) -> Option<bool> {
-    let mut source = source(rt.alloc(), 64, 0)?;
+    let mut source = source_of(rt.alloc(), CALLS, 64, 0)?;
     is_done(rt, words, &mut source, turnstile)
 }
 
-// How often the turnstile was passed in order, where the run ended well.
-fn passed<H: Threads + Sync + AllocGlobal>(rt: &H) -> Option<u32> {
+// What passed, where the run ended well.
+fn passed<H: Threads + Sync + AllocGlobal>(rt: &H) -> Option<u64> {
     let words = words(rt.alloc())?;
-    let turnstile = InOrder {
-        passed: AtomicU32::new(0),
+    let turnstile = Kept {
+        passed: AtomicU64::new(0),
     };
     if runs(rt, &words, &turnstile)? {
         Some(turnstile.passed.load(Ordering::SeqCst))
@@ -67,6 +75,6 @@ fn passed<H: Threads + Sync + AllocGlobal>(rt: &H) -> Option<u32> {
 
 #[test]
 fn the_turnstile_stands_round_each_call(rt: HostRuntime) -> Result<(), Fail> {
-    assert!(rt; passed(&rt) == Some(6));
+    assert!(rt; passed(&rt) == Some(PASSED));
     Ok(())
 }

@@ -1,6 +1,0 @@
--- Words behind a space each, as the end of a line.
-use Rattle.std.specs.Prelude.{ℕ, List, ◌∷◌, flat_map}
-
--- each word behind a space
-abbrev pub spaced : List (List ℕ) → List ℕ
-spaced words = flat_map (λ word. 32 ∷ word) words
