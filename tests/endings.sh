@@ -7,9 +7,12 @@ cd "$(dirname "$0")/.."
 folder=$(mktemp -d)
 trap 'rm -rf "$folder"' EXIT
 printf 'dispatch 1\nend\n' >"$folder/empty"
-printf 'dispatch 1\nend' >"$folder/cut"
+printf 'dispatch 1\ncaller 9\nend\n' >"$folder/caller_nine"
+printf 'dispatch 1\ncaller 256\nend\n' >"$folder/caller_last"
+printf 'fault malformed 2\n' >"$folder/malformed"
 printf 'phase 1 0 0\ndone 0\n' >"$folder/nothing_done"
-printf 'fault script\n' >"$folder/fault_script"
+printf 'fault too-long\n' >"$folder/too_long"
+printf 'fault no-header\n' >"$folder/no_header"
 printf 'fault read\n' >"$folder/fault_read"
 printf '%s\n' 'usage: dispatch run --table sti|colour|row|mrd [--readers R] [--pages P] [--limit L]' \
     '       dispatch gen --table sti|colour|row|mrd --number N --classes C --selectors S' >"$folder/usage"
@@ -46,33 +49,90 @@ ends() {
 }
 
 # The examples print what stands below their command in examples/README.md.
-for script in override redefine refusals; do
+for script in override collide batch pin; do
     awk -v command="\$ ./dispatch run --table sti < examples/$script.dispatch" \
         '$0 == command { on = 1; next } /^```/ { on = 0 } on' examples/README.md >"$folder/example"
     ends "$script" 0 "$folder/example" "examples/$script.dispatch" run --table sti
 done
 ends "no edit" 0 "$folder/nothing_done" "$folder/empty" run --table sti
-ends "no word" 2 "$folder/usage" "$folder/empty"
-ends "a word too few" 2 "$folder/usage" "$folder/empty" run --table
-ends "a word too many" 2 "$folder/usage" "$folder/empty" run --table sti sti
-ends "an empty word" 2 "$folder/usage" "$folder/empty" run --table ""
-ends "another table" 2 "$folder/usage" "$folder/empty" run --table mrd
-ends "another order" 2 "$folder/usage" "$folder/empty" --table run sti
-ends "a word that is no text" 2 "$folder/usage" "$folder/empty" run --table sti "$(printf '\377')"
-ends "no line feed at the end" 3 "$folder/fault_script" "$folder/cut" run --table sti
-ends "no byte" 3 "$folder/fault_script" /dev/null run --table sti
-ends "bytes without an end" 3 "$folder/fault_script" /dev/zero run --table sti
-ends "an input that can't be read" 4 "$folder/fault_read" / run --table sti
 
-# Each beginning of a script that isn't the whole is no script.
-whole=examples/override.dispatch
-length=$(wc -c <"$whole")
-place=0
-while [ "$place" -lt "$length" ]; do
-    head -c "$place" "$whole" >"$folder/beginning"
-    ends "the first $place bytes of $whole" 3 "$folder/fault_script" "$folder/beginning" run --table sti
-    place=$((place + 1))
-done
+# The words: options in any order, each once and in either spelling.
+while read -r words; do
+    # shellcheck disable=SC2086
+    ends "the words $words" 0 "$folder/nothing_done" "$folder/empty" $words
+done <<'WORDS'
+run --table sti
+run --table colour
+run --table row
+run --table mrd
+run --table=mrd
+run --readers 1 --table sti
+run --readers=256 --table=row
+run --pages 16 --table sti --limit 1 --readers 8
+run --limit=2147483648 --pages=65536 --table sti
+WORDS
+while read -r words; do
+    # shellcheck disable=SC2086
+    ends "the words $words" 2 "$folder/usage" "$folder/empty" $words
+done <<'WORDS'
+run
+sti
+Run --table sti
+run --table
+run --table=
+run --table sti sti
+run --table STI
+run --table other
+run --tables sti
+run -table sti
+run -t sti
+run --table sti --table sti
+run --table=sti --table sti
+run --table sti --readers
+run --table sti --readers 0
+run --table sti --readers 257
+run --table sti --readers 08
+run --table sti --readers +8
+run --table sti --readers -8
+run --table sti --readers eight
+run --table sti --readers 8 --readers 8
+run --table sti --readers 4294967304
+run --table sti --readers 00000000008
+run --table sti --pages 15
+run --table sti --pages 65537
+run --table sti --limit 0
+run --table sti --limit 2147483649
+run --table sti --number 1
+run --table sti --classes 2
+run --
+run -- --table sti
+run --table sti --
+run --table -- sti
+run --table sti --help
+run --help
+run -h
+--help
+-- run --table sti
+help
+--table sti run
+--table run sti
+gen
+gen --table sti --number 1 --classes 2 --selectors 1
+WORDS
+ends "no word" 2 "$folder/usage" "$folder/empty"
+ends "an empty word" 2 "$folder/usage" "$folder/empty" run --table ""
+ends "an empty first word" 2 "$folder/usage" "$folder/empty" "" --table sti
+ends "a word of spaces" 2 "$folder/usage" "$folder/empty" run "--table sti"
+ends "a word that is no text" 2 "$folder/usage" "$folder/empty" run --table sti "$(printf '\377')"
+
+# Each kind of ending. A source that never ends is read up to one byte more than a script may have.
+ends "caller 9 of 8" 3 "$folder/malformed" "$folder/caller_nine" run --table sti
+ends "caller 9 of 9" 0 "$folder/nothing_done" "$folder/caller_nine" run --table sti --readers 9
+ends "caller 256 of 256" 0 "$folder/nothing_done" "$folder/caller_last" run --readers=256 --table sti
+ends "caller 256 of 255" 3 "$folder/malformed" "$folder/caller_last" run --readers=255 --table sti
+ends "no byte" 3 "$folder/no_header" /dev/null run --table sti
+ends "bytes without an end" 3 "$folder/too_long" /dev/zero run --table sti
+ends "an input that can't be read" 4 "$folder/fault_read" / run --table sti
 
 # What a device takes that is always full can't be looked at.
 status=0

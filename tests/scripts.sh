@@ -1,8 +1,9 @@
 #!/bin/sh
 # Runs each script of tests/scripts on the program PROGRAM, and compares what it prints and its exit status with what is
 # wanted: of NAME.dispatch the text NAME.out, and the status in NAME.status, or 0 where there is none. Of no_scripts.txt
-# each line is an input of its own. What is wanted was written by hand from the rules of docs/SCRIPT.md, never taken from
-# the program. Prints what differs, and as its last line how many passed.
+# each line is an input of its own. What is wanted was written by hand from the rules of docs/SCRIPT.md, and is what
+# tests/reference.py prints; it was never taken from the program. Prints what differs, and as its last line how many
+# passed.
 set -eu
 program=${1:?"usage: tests/scripts.sh PROGRAM"}
 case $program in
