@@ -19,12 +19,7 @@ module _ {X K : Type 0} (key : X → K) (before same : K → K → Bool) (order 
   before_keys k [] all = refl
   before_keys k (x ∷ xs) all =
       let b : before k (key x) ≡ true = All-head (λ y. IsTrue (before k (key y))) x xs all in
-      let r = before_keys k xs (All-tail (λ y. IsTrue (before k (key y))) x xs all) in
-      elim (test (key x)) as (λ t. place itself before same k (map key (cond t (x ∷ filter (λ y. test (key y)) xs) (filter (λ y. test (key y)) xs)))
-      ≡ k ∷ map key (cond t (x ∷ filter (λ y. test (key y)) xs) (filter (λ y. test (key y)) xs))) [
-        | true ↦ rw b refl
-        | false ↦ r
-      ]
+      let r = before_keys k xs (All-tail (λ y. IsTrue (before k (key y))) x xs all) in grind arith
 
   pub keys-place : (new : X) (xs : List X) → Ascends key before xs
       → keys (place key before same new xs) ≡ cond (test (key new)) (place itself before same (key new) (keys xs)) (keys xs)
@@ -54,21 +49,14 @@ module _ {X K : Type 0} (key : X → K) (before same : K → K → Bool) (order 
 
   pub keys-without : (k : K) (xs : List X)
       → keys (without key same k xs) ≡ cond (test k) (without itself same k (keys xs)) (keys xs)
-  keys-without k [] = elim (test k) as (λ t. ◌≡◌ {A = List K} [] (cond t [] [])) [ true ↦ refl | false ↦ refl ]
+  keys-without k [] = grind arith
   keys-without k (x ∷ xs) =
       let r = keys-without k xs in
-      elim (same k (key x)) as (λ t. same k (key x) ≡ t
-      → keys (without key same k (x ∷ xs)) ≡ cond (test k) (without itself same k (keys (x ∷ xs))) (keys (x ∷ xs))) [
-        | true ↦ λ s. let e = order.equal k (key x) s in let t = ap test e in grind arith
-        | false ↦ λ s. grind arith
-      ] refl
+      let own : IsTrue (same k (key x)) → test k ≡ test (key x) = λ s. ap test (order.equal k (key x) s) in grind arith
 
   pub keys-found : (k : K) (xs : List X) → test k ≡ true → list_any (λ x. same k (key x)) xs ≡ true
       → IsSome (find_at itself same k (keys xs))
   keys-found k [] h there = absurd (false≢true there)
   keys-found k (x ∷ xs) h there =
       let r = keys-found k xs h in
-      elim (same k (key x)) as (λ t. same k (key x) ≡ t → IsSome (find_at itself same k (keys (x ∷ xs)))) [
-        | true ↦ λ s. let e = order.equal k (key x) s in let t = ap test e in grind arith
-        | false ↦ λ s. let r' = r (rw s at there) in grind arith
-      ] refl
+      let own : IsTrue (same k (key x)) → test k ≡ test (key x) = λ s. ap test (order.equal k (key x) s) in grind arith

@@ -1,9 +1,9 @@
 -- How long a list in strict order is with an element more, and with one less.
-use Rattle.std.proofs.Common.{◌≡◌, ◌+◌, Bool, true, false, not, List, [], ◌∷◌, length, filter, refl, sym, ap, ◌∙◌, arith}
+use Rattle.std.proofs.Common.{◌≡◌, ◌+◌, Bool, true, false, not, List, [], ◌∷◌, length, IsTrue, filter, refl, arith}
 use Rattle.std.specs.List.{list_any}
 use Rattle.std.proofs.lemmas.Bool.{false≢true}
 use Rattle.dt_graph.specs.InOrder.{StrictOrder, Ascends, place, without}
-use Rattle.dt_graph.proofs.InOrder.{Ascends-tail, none_listed, not_again, without_none, placed}
+use Rattle.dt_graph.proofs.InOrder.{Ascends-tail, none_listed, not_again, without_none}
 
 pub filter-absent : {X : Type 0} (p : X → Bool) (xs : List X) → list_any p xs ≡ false → filter (λ x. not (p x)) xs ≡ xs
 filter-absent p [] h = refl
@@ -13,28 +13,18 @@ module _ {X K : Type 0} (key : X → K) (before same : K → K → Bool) (order 
   pub length-place_new : (new : X) (xs : List X) → list_any (λ x. same (key new) (key x)) xs ≡ false
       → length (place key before same new xs) ≡ length xs + 1
   length-place_new new [] h = refl
-  length-place_new new (x ∷ xs) h =
-      placed key before same order (λ ys. length ys ≡ length (x ∷ xs) + 1) new x xs
-      (λ _. omega arith)
-      (λ _ s. absurd (false≢true (sym (rw s at h))))
-      (λ _ s. omega (arith, length-place_new new xs (rw s at h)))
+  length-place_new new (x ∷ xs) h = let r = length-place_new new xs in grind arith
 
   pub length-place_again : (new : X) (xs : List X) → Ascends key before xs → list_any (λ x. same (key new) (key x)) xs ≡ true
       → length (place key before same new xs) ≡ length xs
   length-place_again new [] u h = absurd (false≢true h)
   length-place_again new (x ∷ xs) u h =
-      placed key before same order (λ ys. length ys ≡ length (x ∷ xs)) new x xs
-      (λ b. absurd (false≢true (sym (none_listed key before same order (key new) x xs u b) ∙ h)))
-      (λ _ _. omega arith)
-      (λ _ s. omega (arith, length-place_again new xs (Ascends-tail key before same order x xs u) (rw s at h)))
+      let none = none_listed key before same order (key new) x xs u in
+      let r = length-place_again new xs (Ascends-tail key before same order x xs u) in grind arith
 
   pub length-without : (k : K) (xs : List X) → Ascends key before xs → list_any (λ x. same k (key x)) xs ≡ true
       → length (without key same k xs) + 1 ≡ length xs
   length-without k [] u h = absurd (false≢true h)
   length-without k (x ∷ xs) u h =
-      elim (same k (key x)) as (λ t. same k (key x) ≡ t → length (without key same k (x ∷ xs)) + 1 ≡ length (x ∷ xs)) [
-        | true ↦ λ s.
-            let stays = without_none key before same order k xs (not_again key before same order k x xs u s) in
-            rw s (ap (λ ys. length ys + 1) stays ∙ omega arith)
-        | false ↦ λ s. rw s (omega (arith, length-without k xs (Ascends-tail key before same order x xs u) (rw s at h)))
-      ] refl
+      let stays : IsTrue (same k (key x)) → without key same k xs ≡ xs = λ s. without_none key before same order k xs (not_again key before same order k x xs u s) in
+      let r = length-without k xs (Ascends-tail key before same order x xs u) in grind arith

@@ -1,5 +1,5 @@
 -- Lists in strict order stay so where an element is placed and where some are left out; and a change is undone.
-use Rattle.std.proofs.Common.{◌≡◌, ◌+◌, ◌≤◌, Bool, true, false, cond, IsTrue, List, [], ◌∷◌, Option, None, Some, is_some, All, filter, find, refl, sym, ap, subst, ◌∙◌}
+use Rattle.std.proofs.Common.{◌≡◌, ◌≤◌, Bool, true, false, cond, IsTrue, List, [], ◌∷◌, Option, None, Some, is_some, All, filter, find, refl, sym, ap, subst, ◌∙◌}
 use Rattle.std.specs.List.{list_any, count_by}
 use Rattle.std.proofs.Common.{arith}
 use Rattle.std.proofs.lemmas.Bool.{cond_both, false≢true}
@@ -71,11 +71,7 @@ module _ {X K : Type 0} (key : X → K) (before same : K → K → Bool) (order 
   -- ---- what stands before all is not among them
 
   not_same : (k : K) (x : X) → IsTrue (before k (key x)) → same k (key x) ≡ false
-  not_same k x b =
-      elim (same k (key x)) as (λ t. same k (key x) ≡ t → t ≡ false) [
-        | true ↦ λ s. absurd (false≢true (sym (order.irreflexive k) ∙ subst (λ q. before k q ≡ true) (sym (order.equal k (key x) s)) b))
-        | false ↦ λ s. refl
-      ] refl
+  not_same k x b = let e = order.equal k (key x) in let i = order.irreflexive k in grind arith
 
   pub none_found : (k : K) (xs : List X) → BeforeAll k xs → find_at key same k xs ≡ None
   none_found k [] all = refl
@@ -102,29 +98,19 @@ module _ {X K : Type 0} (key : X → K) (before same : K → K → Bool) (order 
   none_counted : (k : K) (xs : List X) → find_at key same k xs ≡ None → count_by (λ x. same k (key x)) xs ≡ 0
   none_counted k [] h = refl
   none_counted k (x ∷ xs) h =
-      rw (sum_by-cons (λ y. cond (same k (key y)) 1 0) x xs)
-      (elim (same k (key x)) as (λ t. same k (key x) ≡ t → cond t 1 0 + count_by (λ y. same k (key y)) xs ≡ 0) [
-        | true ↦ λ s. absurd (let q = rw s at h in cc)
-        | false ↦ λ s. omega (arith, none_counted k xs (rw s at h))
-      ] refl)
+      let r = none_counted k xs in let c = sum_by-cons (λ y. cond (same k (key y)) 1 0) x xs in grind arith
 
   -- no key stands twice
   pub stands_once : (k : K) (xs : List X) → Ascends key before xs → count_by (λ x. same k (key x)) xs ≤ 1
   stands_once k [] u = omega arith
   stands_once k (x ∷ xs) u =
-      rw (sum_by-cons (λ y. cond (same k (key y)) 1 0) x xs)
-      (elim (same k (key x)) as (λ t. same k (key x) ≡ t → cond t 1 0 + count_by (λ y. same k (key y)) xs ≤ 1) [
-        | true ↦ λ s. omega (arith, none_counted k xs (not_again k x xs u s))
-        | false ↦ λ s. omega (arith, stands_once k xs (Ascends-tail x xs u))
-      ] refl)
+      let r = stands_once k xs (Ascends-tail x xs u) in
+      let none : IsTrue (same k (key x)) → count_by (λ y. same k (key y)) xs ≡ 0 = λ s. none_counted k xs (not_again k x xs u s) in
+      let c = sum_by-cons (λ y. cond (same k (key y)) 1 0) x xs in grind arith
 
   pub without_none : (k : K) (xs : List X) → find_at key same k xs ≡ None → without key same k xs ≡ xs
   without_none k [] h = refl
-  without_none k (x ∷ xs) h =
-      elim (same k (key x)) as (λ t. same k (key x) ≡ t → without key same k (x ∷ xs) ≡ x ∷ xs) [
-        | true ↦ λ s. absurd (let q = rw s at h in cc)
-        | false ↦ λ s. rw s (ap (λ ys. x ∷ ys) (without_none k xs (rw s at h)))
-      ] refl
+  without_none k (x ∷ xs) h = let r = without_none k xs in grind arith
 
   pub place_first : (d : X) (xs : List X) → BeforeAll (key d) xs → place key before same d xs ≡ d ∷ xs
   place_first d [] all = refl
@@ -136,23 +122,14 @@ module _ {X K : Type 0} (key : X → K) (before same : K → K → Bool) (order 
   pub remove_placed : (d : X) (xs : List X) → find_at key same (key d) xs ≡ None → without key same (key d) (place key before same d xs) ≡ xs
   remove_placed d [] h = rw (order.reflexive (key d)) refl
   remove_placed d (x ∷ xs) h =
-      let stays = without_none (key d) (x ∷ xs) h in
-      elim (same (key d) (key x)) as (λ t. same (key d) (key x) ≡ t → without key same (key d) (place key before same d (x ∷ xs)) ≡ x ∷ xs) [
-        | true ↦ λ s. absurd (let q = rw s at h in cc)
-        | false ↦ λ s. placed (λ ys. without key same (key d) ys ≡ x ∷ xs) d x xs
-            (λ _. rw (order.reflexive (key d)) stays)
-            (λ _ e. absurd (false≢true (sym s ∙ e)))
-            (λ _ _. rw s (ap (λ ys. x ∷ ys) (remove_placed d xs (rw s at h))))
-      ] refl
+      let r = remove_placed d xs in
+      let stays = without_none (key d) xs in
+      let own = order.reflexive (key d) in grind arith
 
   -- an element that is found has the key
   pub found_key : (k : K) (xs : List X) (old : X) → find_at key same k xs ≡ Some old → key old ≡ k
   found_key k [] old h = absurd cc
-  found_key k (x ∷ xs) old h =
-      elim (same k (key x)) as (λ t. same k (key x) ≡ t → key old ≡ k) [
-        | true ↦ λ s. let q : x ≡ old = (let e = rw s at h in cc) in subst (λ y. key y ≡ k) q (sym (order.equal k (key x) s))
-        | false ↦ λ s. found_key k xs old (rw s at h)
-      ] refl
+  found_key k (x ∷ xs) old h = let r = found_key k xs old in let e = order.equal k (key x) in grind arith
 
   -- an element goes back behind one that stands before it
   place_behind : (old x : X) (k : K) (xs : List X) → key old ≡ k → before k (key x) ≡ false → same k (key x) ≡ false
