@@ -22,12 +22,12 @@ not_changed_by_want_of_memory : Applies program (edit.AddClass 8 []) (stepped pr
 not_changed_by_want_of_memory h = absurd cc
 
 -- the place that a batch is refused at
-abbrev place_of : Result Program Refused → ℕ
-place_of (Ok _) = 0
-place_of (Err refused) = refused.at
+abbrev position_of : Result Program Refused → ℕ
+position_of (Ok _) = 0
+position_of (Err refused) = refused.at
 
 not_at_another_place : AppliesBatch program (edit.AddClass 8 [] ∷ edit.Unlink 8 3 ∷ []) program (Err (batch_fault.Refused 1 why.LinkUnknown)) → ⊥
-not_at_another_place h = let told = ap place_of h.0 in absurd (omega (arith, told))
+not_at_another_place h = let told = ap position_of h.0 in absurd (omega (arith, told))
 
 not_with_its_first_edit_kept : AppliesBatch program (edit.AddClass 8 [] ∷ edit.Unlink 8 3 ∷ [])
     (stepped program (edit.AddClass 8 [] ∷ [])) (Err (batch_fault.Refused 2 why.LinkUnknown)) → ⊥

@@ -7,12 +7,12 @@ use Rattle.std.proofs.lemmas.List.{length-map}
 use Rattle.dt_graph.specs.Graph.{has_number}
 use Rattle.dt_selectors.specs.declared.limits.TheConstants.{SELECTORS}
 use Rattle.dt_definitions.specs.declared.defined.Defined.{Defined}
-use Rattle.dt_definitions.specs.Program.{Definition, is_definition, place_definition, body_of, key_of, is_key_before, is_same_key}
-use Rattle.dt_definitions.specs.Naming.{NamingList, naming, place_key, without_key, keys_at, room_at, HasRoomIn, KeysStay, RoomsGrow}
+use Rattle.dt_definitions.specs.Program.{Definition, is_definition, insert_definition, body_of, key_of, is_key_before, is_same_key}
+use Rattle.dt_definitions.specs.Naming.{NamingList, naming, insert_key, without_key, keys_at, room_at, HasRoomIn, KeysStay, RoomsGrow}
 use Rattle.dt_definitions.specs.SelectorLists.{SelectorList, with_selector, definitions_from, rooms_of, rooms_in, body_in, DefinitionsKept, NoneDefined, HaveSameDefinitions, ListRoomFor, HasNamingRoom, NoneShrinks}
-use Rattle.dt_definitions.proofs.DefinitionOrder.{key_order, place-ascends, filter-ascends, is_definition-equal}
-use Rattle.dt_definitions.proofs.Lengths.{length-place_new, length-place_again, length-without}
-use Rattle.dt_definitions.proofs.Keys.{keys-place, keys-again, keys-without}
+use Rattle.dt_definitions.proofs.DefinitionOrder.{key_order, insert-ascends, filter-ascends, is_definition-equal}
+use Rattle.dt_definitions.proofs.Lengths.{length-insert_new, length-insert_again, length-without}
+use Rattle.dt_definitions.proofs.Keys.{keys-insert, keys-again, keys-without}
 use Rattle.dt_definitions.proofs.Lists.{none_from_empty, of_row, find_of}
 
 -- a row's body is the body among its selector's definitions
@@ -67,33 +67,33 @@ kept_lists rows count lists new k stay = record {
 
 module _ (rows new : List SelectorList) (count : ℕ) (lists : List NamingList) (k : DefinitionsKept rows count lists) (l : length new ≡ SELECTORS) where
   pub kept_put_again : (d : Definition)
-      → definitions_from 0 new ≡ place_definition d (definitions_from 0 rows)
+      → definitions_from 0 new ≡ insert_definition d (definitions_from 0 rows)
       → list_any (is_definition d.selector d.classes) (definitions_from 0 rows) ≡ true
       → DefinitionsKept new count lists
   kept_put_again d e there =
       let ds = definitions_from 0 rows in
       record {
         all_selectors = l;
-        counted = k.counted ∙ sym (length-place_again key_of is_key_before is_same_key key_order d ds k.ascends there) ∙ ap length (sym e);
+        counted = k.counted ∙ sym (length-insert_again key_of is_key_before is_same_key key_order d ds k.ascends there) ∙ ap length (sym e);
         named = λ class c. k.named class c
             ∙ sym (keys-again key_of is_key_before is_same_key key_order (λ key. has_number key.classes class) d ds k.ascends there)
             ∙ ap (λ ds. naming ds class) (sym e);
-        ascends = rw e (place-ascends d ds k.ascends);
+        ascends = rw e (insert-ascends d ds k.ascends);
       }
 
   pub kept_put_new : (d : Definition) (named : List NamingList)
-      → definitions_from 0 new ≡ place_definition d (definitions_from 0 rows)
+      → definitions_from 0 new ≡ insert_definition d (definitions_from 0 rows)
       → list_any (is_definition d.selector d.classes) (definitions_from 0 rows) ≡ false
-      → ((class : ℕ) → keys_at named class ≡ cond (has_number d.classes class) (place_key (key_of d) (keys_at lists class)) (keys_at lists class))
+      → ((class : ℕ) → keys_at named class ≡ cond (has_number d.classes class) (insert_key (key_of d) (keys_at lists class)) (keys_at lists class))
       → DefinitionsKept new (count + 1) named
   kept_put_new d named e absent g =
       let ds = definitions_from 0 rows in
       record {
         all_selectors = l;
-        counted = rw (e, k.counted) (sym (length-place_new key_of is_key_before is_same_key key_order d ds absent));
+        counted = rw (e, k.counted) (sym (length-insert_new key_of is_key_before is_same_key key_order d ds absent));
         named = λ class c. g class ∙ rw (k.named class c, e)
-            (sym (keys-place key_of is_key_before is_same_key key_order (λ key. has_number key.classes class) d ds k.ascends));
-        ascends = rw e (place-ascends d ds k.ascends);
+            (sym (keys-insert key_of is_key_before is_same_key key_order (λ key. has_number key.classes class) d ds k.ascends));
+        ascends = rw e (insert-ascends d ds k.ascends);
       }
 
   pub kept_remove : (d : Definition) (named : List NamingList)

@@ -1,12 +1,12 @@
 -- What definitions do to bodies, and that they may be made in either order.
 use Rattle.std.proofs.Common.{◌≡◌, ℕ, cond, not, List, [], ◌∷◌, filter, None, Some, IsTrue, refl, sym, ap, ◌∙◌, arith}
-use Rattle.dt_definitions.specs.Program.{Definition, Program, is_definition, place_definition, body_of, key_of, is_key_before, is_same_key}
+use Rattle.dt_definitions.specs.Program.{Definition, Program, is_definition, insert_definition, body_of, key_of, is_key_before, is_same_key}
 use Rattle.dt_definitions.specs.Step.{with_definitions}
 use Rattle.dt_definitions.specs.Laws.{the, LeadsTo, DefineSetsOneBody, UndefineClearsOneBody, DefinesCommute}
 use Rattle.dt_definitions.specs.declared.edit.Edit.TheVariants.{Define, Undefine}
 use Rattle.dt_definitions.proofs.AnswerLaws.{ok_has_no_cause}
 use Rattle.dt_definitions.proofs.DefinitionOrder.{is_definition-equal, key_order}
-use Rattle.dt_graph.proofs.InOrder.{places-commute}
+use Rattle.dt_graph.proofs.InOrder.{inserts-commute}
 
 -- ---- the body at a place, after a definition is made or goes
 
@@ -22,7 +22,7 @@ at_one_place s cs d e h k =
     let q = is_definition-equal s cs d h in rw (q.0, q.1) k
 
 pub body-placed : (d : Definition) (s : ℕ) (cs : List ℕ) (ds : List Definition)
-    → body_of (place_definition d ds) s cs ≡ cond (is_definition s cs d) (Some d.body) (body_of ds s cs)
+    → body_of (insert_definition d ds) s cs ≡ cond (is_definition s cs d) (Some d.body) (body_of ds s cs)
 body-placed d s cs [] = grind arith
 body-placed d s cs (e ∷ ds) =
     let r = body-placed d s cs ds in
@@ -54,14 +54,14 @@ undefine_clears_one_body p q s cs h other at =
 -- the program after two definitions
 both_placed : (p q : Program) (a b : Definition)
     → LeadsTo p (Define a.selector a.classes a.body ∷ Define b.selector b.classes b.body ∷ []) q
-    → q ≡ with_definitions p (place_definition b (place_definition a p.definitions))
+    → q ≡ with_definitions p (insert_definition b (insert_definition a p.definitions))
 both_placed p q a b h =
     let one = (ok_has_no_cause p h.0 (Define a.selector a.classes a.body) h.1).1 in
     let two = (ok_has_no_cause h.0 h.2.0 (Define b.selector b.classes b.body) h.2.1).1 in
-    sym h.2.2 ∙ two ∙ ap (λ (r : Program). with_definitions r (place_definition b r.definitions)) one
+    sym h.2.2 ∙ two ∙ ap (λ (r : Program). with_definitions r (insert_definition b r.definitions)) one
 
 pub defines_commute : DefinesCommute
 defines_commute p q r a b differ h k =
     both_placed p q a b h
-    ∙ ap (with_definitions p) (sym (places-commute key_of is_key_before is_same_key key_order a b p.definitions differ))
+    ∙ ap (with_definitions p) (sym (inserts-commute key_of is_key_before is_same_key key_order a b p.definitions differ))
     ∙ sym (both_placed p r b a k)

@@ -2,9 +2,9 @@
 use Rattle.std.proofs.Common.{◌≡◌, ℕ, Bool, List, filter, IsTrue, refl, sym, arith, eqb}
 use Rattle.std.proofs.lemmas.Bool.{and_parts, eqb-true}
 use Rattle.std.proofs.lemmas.Bool.Decides.{nat_tests}
-use Rattle.dt_definitions.specs.Program.{Definition, same_classes, is_definition, place_definition, key_of, is_key_before, is_same_key}
+use Rattle.dt_definitions.specs.Program.{Definition, same_classes, is_definition, insert_definition, key_of, is_key_before, is_same_key}
 use Rattle.dt_graph.specs.InOrder.{StrictOrder}
-use Rattle.dt_graph.proofs.InOrder.{Ascends-place, Ascends-filter}
+use Rattle.dt_graph.proofs.InOrder.{Ascends-insert, Ascends-filter}
 use Rattle.dt_definitions.specs.Lawful.{AscendingDefinitions}
 use Rattle.dt_graph.proofs.SameLists.{same_list-self, same_list_equal}
 use Rattle.dt_definitions.proofs.ClassOrder.{same-sym, before-irrefl, before-trans, before-total}
@@ -30,9 +30,9 @@ key_order = record {
 }
 
 -- the list ascends with one definition more, and with some left out
-pub place-ascends : (d : Definition) (ds : List Definition)
-    → AscendingDefinitions ds → AscendingDefinitions (place_definition d ds)
-place-ascends d ds h = Ascends-place key_of is_key_before is_same_key key_order d ds h
+pub insert-ascends : (d : Definition) (ds : List Definition)
+    → AscendingDefinitions ds → AscendingDefinitions (insert_definition d ds)
+insert-ascends d ds h = Ascends-insert key_of is_key_before is_same_key key_order d ds h
 
 pub filter-ascends : (p : Definition → Bool) (ds : List Definition)
     → AscendingDefinitions ds → AscendingDefinitions (filter p ds)

@@ -2,7 +2,7 @@
 use Rattle.std.proofs.Common.{◌≡◌, ℕ, true, IsTrue, List, [], ◌∷◌, find, Some, refl, sym, ap, ◌∙◌}
 use Rattle.std.specs.List.{list_any}
 use Rattle.std.proofs.lemmas.Bool.{false≢true}
-use Rattle.dt_definitions.specs.Program.{Definition, is_definition, place_definition, key_of, is_key_before, is_same_key}
+use Rattle.dt_definitions.specs.Program.{Definition, is_definition, insert_definition, key_of, is_key_before, is_same_key}
 use Rattle.dt_definitions.specs.SelectorLists.{Definitions, HasRoomFor}
 use Rattle.dt_definitions.proofs.DefinitionOrder.{key_order}
 use Rattle.dt_graph.proofs.InOrder.{found_key, placed}
@@ -13,7 +13,7 @@ pub has_room : (definitions : Definitions) (s : ℕ) (cs : List ℕ)
 has_room definitions s cs there = λ absent. absurd (false≢true (sym absent ∙ there))
 
 pub placed_there : (d : Definition) (ds : List Definition)
-    → list_any (is_definition d.selector d.classes) (place_definition d ds) ≡ true
+    → list_any (is_definition d.selector d.classes) (insert_definition d ds) ≡ true
 placed_there d [] = rw (key_order.reflexive (key_of d)) refl
 placed_there d (e ∷ ds) =
     let here : IsTrue (is_definition d.selector d.classes d) = key_order.reflexive (key_of d) in

@@ -8,8 +8,8 @@ use Rattle.dt_graph.specs.Graph.{has_number}
 use Rattle.dt_graph.specs.LinkChanges.{OthersKeepTheirLinks}
 use Rattle.dt_graph.proofs.Effects.{links_after_add, links_after_drop, links_after_link, links_after_unlink}
 use Rattle.dt_graph.proofs.ListMembers.{In-from_Contains, Contains-from_In, In-filter, In-from_filter}
-use Rattle.dt_graph.proofs.PlacedMembers.{In-place, In-from_place}
-use Rattle.dt_definitions.specs.Program.{Definition, Program, is_definition, place_definition, key_of, is_key_before, is_same_key}
+use Rattle.dt_graph.proofs.PlacedMembers.{In-inserted, In-from_inserted}
+use Rattle.dt_definitions.specs.Program.{Definition, Program, is_definition, insert_definition, key_of, is_key_before, is_same_key}
 use Rattle.dt_definitions.specs.declared.definition_key.DefinitionKey.{DefinitionKey}
 use Rattle.dt_definitions.specs.Laws.{LeadsTo}
 use Rattle.dt_definitions.specs.Step.{effect}
@@ -24,14 +24,14 @@ use Rattle.dt_definitions.proofs.Histories.{lawful-along}
 
 -- ---- definitions
 
-others_placed : (new : Definition) (ds : List Definition) → OthersStayDefined (key_of new ∷ []) ds (place_definition new ds)
+others_placed : (new : Definition) (ds : List Definition) → OthersStayDefined (key_of new ∷ []) ds (insert_definition new ds)
 others_placed new ds = λ d apart.
     let elsewhere = (or_parts (is_definition new.selector new.classes d) false apart).0 in (
-      (λ there. Contains-from_In (place_definition new ds) d
-          (In-place key_of is_key_before is_same_key key_order new d elsewhere ds (In-from_Contains ds d there))),
+      (λ there. Contains-from_In (insert_definition new ds) d
+          (In-inserted key_of is_key_before is_same_key key_order new d elsewhere ds (In-from_Contains ds d there))),
       (λ there. Contains-from_In ds d
-          (In-from_place key_of is_key_before is_same_key key_order new d elsewhere ds
-          (In-from_Contains (place_definition new ds) d there))),
+          (In-from_inserted key_of is_key_before is_same_key key_order new d elsewhere ds
+          (In-from_Contains (insert_definition new ds) d there))),
     )
 
 others_removed : (selector : ℕ) (classes : List ℕ) (ds : List Definition) →

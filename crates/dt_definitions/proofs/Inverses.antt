@@ -7,13 +7,13 @@ use Rattle.std.proofs.lemmas.List.Elements.{All-head, All-tail}
 use Rattle.dt_graph.specs.Refusal.{cause_if, first_cause}
 use Rattle.dt_graph.specs.Graph.{has_number, is_live}
 use Rattle.dt_graph.specs.GraphChange.{add_cause, drop_cause, link_cause, unlink_cause}
-use Rattle.dt_graph.proofs.InOrder.{is_some-find, no_some, remove_placed, put_back_replaced, put_back_removed}
+use Rattle.dt_graph.proofs.InOrder.{is_some-find, no_some, remove_inserted, put_back_replaced, put_back_removed}
 use Rattle.dt_graph.proofs.LawfulChanges.{may_be_added}
 use Rattle.dt_graph.proofs.Undone.{add_undone, drop_undone, link_undone, unlink_undone}
-use Rattle.dt_selectors.specs.Selectors.{Selector, arity_in, has_selector, place_selector, without_selector}
+use Rattle.dt_selectors.specs.Selectors.{Selector, arity_in, has_selector, insert_selector, without_selector}
 use Rattle.dt_selectors.proofs.Undoing.{adding_undone, dropping_undone}
 use Rattle.dt_selectors.proofs.Arities.{adding, dropping}
-use Rattle.dt_definitions.specs.Program.{Definition, Program, is_definition, place_definition, key_of, is_key_before, is_same_key}
+use Rattle.dt_definitions.specs.Program.{Definition, Program, is_definition, insert_definition, key_of, is_key_before, is_same_key}
 use Rattle.dt_definitions.specs.Lawful.{Lawful, LawfulDefinition, IsInRange}
 use Rattle.dt_definitions.specs.Step.{refusal, effect, step, why_of, is_named, is_defined, has_definition, place_causes, with_graph, with_selectors, with_definitions}
 use Rattle.dt_definitions.specs.Undo.{inverse, arity_again, body_again}
@@ -75,18 +75,18 @@ define_undone p s cs body lawful h = go (find (is_definition s cs) p.definitions
     d : Definition
     d = record { selector = s; classes = cs; body = body }
 
-    there : list_any (is_definition s cs) (place_definition d p.definitions) ≡ true
+    there : list_any (is_definition s cs) (insert_definition d p.definitions) ≡ true
     there = placed_there d p.definitions
 
     go : (found : Option Definition) → find (is_definition s cs) p.definitions ≡ found
         → IsUndone (effect p (Define s cs body)) (body_again s cs (option_map (λ d. d.body) found)) p
     go None is = (
       other_last (place_causes p s cs) _ _ h (rw there refl),
-      ap (with_definitions p) (remove_placed key_of is_key_before is_same_key key_order d p.definitions is),
+      ap (with_definitions p) (remove_inserted key_of is_key_before is_same_key key_order d p.definitions is),
     )
     go (Some old) is = (
-      other_last (place_causes p s cs) _ _ h (rw (there, both (leb DEFINITIONS (length (place_definition d p.definitions)))) refl),
-      ap (with_definitions p) (subst (λ o. place_definition o (place_definition d p.definitions) ≡ p.definitions) (found_is s cs p.definitions old is)
+      other_last (place_causes p s cs) _ _ h (rw (there, both (leb DEFINITIONS (length (insert_definition d p.definitions)))) refl),
+      ap (with_definitions p) (subst (λ o. insert_definition o (insert_definition d p.definitions) ≡ p.definitions) (found_is s cs p.definitions old is)
           (put_back_replaced key_of is_key_before is_same_key key_order d old p.definitions lawful.definitions_ascend is)),
     )
 
@@ -112,7 +112,7 @@ undefine_undone p s cs lawful h = go (find (is_definition s cs) p.definitions) r
     go None is = absurd (false≢true (ap is_some (sym is) ∙ is_some-find (is_definition s cs) p.definitions ∙ there))
     go (Some old) is = (
       other_last (place_causes p s cs) _ _ h (rw few refl),
-      ap (with_definitions p) (subst (λ o. place_definition o rest ≡ p.definitions) (found_is s cs p.definitions old is)
+      ap (with_definitions p) (subst (λ o. insert_definition o rest ≡ p.definitions) (found_is s cs p.definitions old is)
           (put_back_removed key_of is_key_before is_same_key key_order key old p.definitions lawful.definitions_ascend is)),
     )
 
@@ -120,8 +120,8 @@ add_selector_undone : (p : Program) (s a : ℕ) → Lawful p → has_selector p.
     → IsUndone (effect p (AddSelector s a)) (DropSelector s) p
 add_selector_undone p s a lawful absent =
     let new : Selector = record { number = s; arity = a } in
-    let own : arity_in (place_selector new p.selectors) s ≡ Some a = adding p.selectors new s ∙ rw (eq-eqb s s refl) refl in
-    let known : has_selector (place_selector new p.selectors) s ≡ true = ap is_some own in
+    let own : arity_in (insert_selector new p.selectors) s ≡ Some a = adding p.selectors new s ∙ rw (eq-eqb s s refl) refl in
+    let known : has_selector (insert_selector new p.selectors) s ≡ true = ap is_some own in
     (rw (known, undefined p s lawful absent) refl, ap (with_selectors p) (adding_undone p.selectors new (no_some (arity_in p.selectors s) absent)))
 
 drop_selector_undone : (p : Program) (s : ℕ) → Lawful p → None ≡ refusal p (DropSelector s)

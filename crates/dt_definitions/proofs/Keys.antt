@@ -4,7 +4,7 @@ use Rattle.std.specs.Prelude.{IsSome}
 use Rattle.std.specs.List.{list_any}
 use Rattle.std.proofs.lemmas.Bool.{false≢true}
 use Rattle.std.proofs.lemmas.List.Elements.{All-head, All-tail}
-use Rattle.dt_graph.specs.InOrder.{StrictOrder, Ascends, place, find_at, without}
+use Rattle.dt_graph.specs.InOrder.{StrictOrder, Ascends, insert_by_key, find_at, without}
 use Rattle.dt_graph.proofs.InOrder.{Ascends-tail, before_first, none_listed, placed}
 
 module _ {X K : Type 0} (key : X → K) (before same : K → K → Bool) (order : StrictOrder before same) (test : K → Bool) where
@@ -15,31 +15,31 @@ module _ {X K : Type 0} (key : X → K) (before same : K → K → Bool) (order 
   keys xs = map key (filter (λ x. test (key x)) xs)
 
   -- a key that stands before all comes first
-  before_keys : (k : K) (xs : List X) → All (λ x. IsTrue (before k (key x))) xs → place itself before same k (keys xs) ≡ k ∷ keys xs
+  before_keys : (k : K) (xs : List X) → All (λ x. IsTrue (before k (key x))) xs → insert_by_key itself before same k (keys xs) ≡ k ∷ keys xs
   before_keys k [] all = refl
   before_keys k (x ∷ xs) all =
       let b : before k (key x) ≡ true = All-head (λ y. IsTrue (before k (key y))) x xs all in
       let r = before_keys k xs (All-tail (λ y. IsTrue (before k (key y))) x xs all) in grind arith
 
-  pub keys-place : (new : X) (xs : List X) → Ascends key before xs
-      → keys (place key before same new xs) ≡ cond (test (key new)) (place itself before same (key new) (keys xs)) (keys xs)
-  keys-place new [] u = elim (test (key new)) as (λ t. map key (cond t (new ∷ []) []) ≡ cond t (key new ∷ []) []) [ true ↦ refl | false ↦ refl ]
-  keys-place new (x ∷ xs) u =
-      placed key before same order (λ ys. keys ys ≡ cond (test (key new)) (place itself before same (key new) (keys (x ∷ xs))) (keys (x ∷ xs))) new x xs
+  pub keys-insert : (new : X) (xs : List X) → Ascends key before xs
+      → keys (insert_by_key key before same new xs) ≡ cond (test (key new)) (insert_by_key itself before same (key new) (keys xs)) (keys xs)
+  keys-insert new [] u = elim (test (key new)) as (λ t. map key (cond t (new ∷ []) []) ≡ cond t (key new ∷ []) []) [ true ↦ refl | false ↦ refl ]
+  keys-insert new (x ∷ xs) u =
+      placed key before same order (λ ys. keys ys ≡ cond (test (key new)) (insert_by_key itself before same (key new) (keys (x ∷ xs))) (keys (x ∷ xs))) new x xs
       (λ b.
       let front = before_keys (key new) (x ∷ xs) (before_first key before same order (key new) x xs u b) in
       elim (test (key new)) as (λ t. map key (cond t (new ∷ filter (λ y. test (key y)) (x ∷ xs)) (filter (λ y. test (key y)) (x ∷ xs)))
-      ≡ cond t (place itself before same (key new) (keys (x ∷ xs))) (keys (x ∷ xs))) [ true ↦ sym front | false ↦ refl ])
+      ≡ cond t (insert_by_key itself before same (key new) (keys (x ∷ xs))) (keys (x ∷ xs))) [ true ↦ sym front | false ↦ refl ])
       (λ b s.
       let e = order.equal (key new) (key x) s in
       let t = ap test e in
       let f = order.reflexive (key new) in
       grind arith)
-      (λ b s. let r = keys-place new xs (Ascends-tail key before same order x xs u) in grind arith)
+      (λ b s. let r = keys-insert new xs (Ascends-tail key before same order x xs u) in grind arith)
 
   -- a key that is there is there once
   pub keys-again : (new : X) (xs : List X) → Ascends key before xs → list_any (λ x. same (key new) (key x)) xs ≡ true
-      → keys (place key before same new xs) ≡ keys xs
+      → keys (insert_by_key key before same new xs) ≡ keys xs
   keys-again new [] u there = absurd (false≢true there)
   keys-again new (x ∷ xs) u there =
       placed key before same order (λ ys. keys ys ≡ keys (x ∷ xs)) new x xs

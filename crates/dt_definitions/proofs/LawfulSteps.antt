@@ -8,9 +8,9 @@ use Rattle.dt_graph.specs.Refusal.{cause_if}
 use Rattle.dt_graph.specs.Graph.{Graph, has_number, is_live}
 use Rattle.dt_graph.specs.GraphChange.{add_cause, add_effect, drop_cause, drop_effect, link_cause, link_effect, unlink_effect, first_unknown}
 use Rattle.dt_graph.specs.Lawful.{LawfulGraph}
-use Rattle.dt_selectors.specs.Selectors.{Selector, arity_in, has_selector, place_selector, without_selector}
+use Rattle.dt_selectors.specs.Selectors.{Selector, arity_in, has_selector, insert_selector, without_selector}
 use Rattle.dt_selectors.specs.Lawful.{LawfulSelectors}
-use Rattle.dt_definitions.specs.Program.{Definition, Program, empty_program, arity_of, definitions_of, is_definition, place_definition, key_of, is_key_before, is_same_key}
+use Rattle.dt_definitions.specs.Program.{Definition, Program, empty_program, arity_of, definitions_of, is_definition, insert_definition, key_of, is_key_before, is_same_key}
 use Rattle.dt_definitions.specs.Lawful.{LawfulDefinition, Lawful, IsInRange}
 use Rattle.dt_definitions.specs.Step.{why_of, is_named, is_defined, arity_differs, refusal, effect, step, with_graph, with_selectors, with_definitions, Applies}
 use Rattle.dt_definitions.specs.declared.edit.Edit.{Edit}
@@ -19,13 +19,13 @@ use Rattle.dt_definitions.specs.declared.why.Why.{Why}
 use Rattle.dt_definitions.specs.declared.why.Why.TheVariants as why
 use Rattle.dt_definitions.specs.declared.why.ApplyFault.{ApplyFault}
 use Rattle.dt_definitions.proofs.AnswerLaws.{ok_has_no_cause, ok_alone_changes}
-use Rattle.dt_definitions.proofs.DefinitionOrder.{key_order, place-ascends, filter-ascends}
-use Rattle.dt_graph.proofs.InOrder.{All-place}
+use Rattle.dt_definitions.proofs.DefinitionOrder.{key_order, insert-ascends, filter-ascends}
+use Rattle.dt_graph.proofs.InOrder.{All-insert}
 use Rattle.dt_graph.proofs.LinkLists.{has_number-placed, has_number-kept}
 use Rattle.dt_graph.proofs.LawfulChanges as graph
 use Rattle.dt_selectors.proofs.LawfulChanges as selectors
 use Rattle.dt_selectors.proofs.Arities.{adding, dropping}
-use Rattle.dt_definitions.proofs.Steps.{NoCause, no_cause, not_caused, none_mapped, few-place, few-filter, may_define}
+use Rattle.dt_definitions.proofs.Steps.{NoCause, no_cause, not_caused, none_mapped, few-insert, few-filter, may_define}
 
 -- a class of a definition is named, and a definition's selector is defined
 named_at : (p : Program) (i k : ℕ) (d : Definition) (e : ℕ)
@@ -81,8 +81,8 @@ selectors_changed p ss l h stays = record {
 beside : (p : Program) (ds : List Definition) (d : Definition) → LawfulDefinition p d → LawfulDefinition (with_definitions p ds) d
 beside p ds d h = record { arity_fits = h.arity_fits; classes_live = h.classes_live; body_in_range = h.body_in_range }
 
-place-all : (P : Definition → Type 0) (d : Definition) (ds : List Definition) → P d → All P ds → All P (place_definition d ds)
-place-all = All-place key_of is_key_before is_same_key key_order
+insert-all : (P : Definition → Type 0) (d : Definition) (ds : List Definition) → P d → All P ds → All P (insert_definition d ds)
+insert-all = All-insert key_of is_key_before is_same_key key_order
 
 -- classes of which none is unknown are live
 all_live : (g : Graph) (classes : List ℕ) → first_unknown g classes ≡ None → All (λ class. IsTrue (is_live g class)) classes
@@ -123,7 +123,7 @@ effect-lawful p (Unlink class parent) l r h =
 effect-lawful p (AddSelector selector arity) l r h =
     let new : Selector = record { number = selector; arity = arity } in
     let absent = not_caused (has_selector p.selectors selector) why.SelectorExists (sym h) in
-    selectors_changed p (place_selector new p.selectors) l (selectors.add_keeps p.selectors new l.selectors r)
+    selectors_changed p (insert_selector new p.selectors) l (selectors.add_keeps p.selectors new l.selectors r)
     (λ s _ known.
     let other = ne_eqb selector s (λ e. false≢true (sym absent ∙ subst (λ k. has_selector p.selectors k ≡ true) (sym e) known)) in
     adding p.selectors new s ∙ rw other refl)
@@ -137,16 +137,16 @@ effect-lawful p (DropSelector selector) l r h =
     dropping p.selectors selector s ∙ rw other refl)
 effect-lawful p (Define selector classes body) l r h =
     let d : Definition = record { selector = selector; classes = classes; body = body } in
-    let ds = place_definition d p.definitions in
+    let ds = insert_definition d p.definitions in
     let may = may_define p selector classes body h in
     record {
       graph = l.graph;
       selectors = l.selectors;
-      definitions_ascend = place-ascends d p.definitions l.definitions_ascend;
-      definitions_lawful = place-all (LawfulDefinition (with_definitions p ds)) d p.definitions
+      definitions_ascend = insert-ascends d p.definitions l.definitions_ascend;
+      definitions_lawful = insert-all (LawfulDefinition (with_definitions p ds)) d p.definitions
           (record { arity_fits = arity_known p selector classes may.known may.arity; classes_live = all_live p.graph classes may.live; body_in_range = r })
           (λ i e m. beside p ds (get_or p.definitions i e) (l.definitions_lawful i e m));
-      few_definitions = few-place d p.definitions l.definitions_ascend l.few_definitions may.few;
+      few_definitions = few-insert d p.definitions l.definitions_ascend l.few_definitions may.few;
     }
 effect-lawful p (Undefine selector classes) l r h =
     let others = λ (d : Definition). not (is_definition selector classes d) in

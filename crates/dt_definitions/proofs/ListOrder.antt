@@ -1,13 +1,13 @@
 -- The rows of definitions are in the order of their classes, and a change of a row is one of its selector's definitions.
 use Rattle.std.proofs.Common.{◌≡◌, ℕ, List, filter, not, refl, sym, ◌∙◌, arith}
 use Rattle.std.proofs.lemmas.Bool.{eq-eqb, le-ltb}
-use Rattle.dt_graph.specs.InOrder.{StrictOrder, place, without}
-use Rattle.dt_definitions.specs.Program.{are_classes_before, same_classes, is_definition, place_definition, key_of, is_key_before, is_same_key}
+use Rattle.dt_graph.specs.InOrder.{StrictOrder, insert_by_key, without}
+use Rattle.dt_definitions.specs.Program.{are_classes_before, same_classes, is_definition, insert_definition, key_of, is_key_before, is_same_key}
 use Rattle.dt_definitions.specs.SelectorLists.{definition_of, with_selector, classes_at, are_same}
 use Rattle.dt_definitions.specs.declared.defined.Defined.{Defined}
 use Rattle.dt_graph.proofs.SameLists.{same_list-self, same_list_equal}
 use Rattle.dt_definitions.proofs.ClassOrder.{same-sym, before-irrefl, before-trans, before-total}
-use Rattle.dt_definitions.proofs.Searching.{map-place, map-without}
+use Rattle.dt_definitions.proofs.Searching.{map-insert, map-without}
 
 pub class_order : StrictOrder are_classes_before are_same
 class_order = record {
@@ -29,9 +29,9 @@ is_within s xs y = let e = eq-eqb s s refl in rw e refl
 
 -- one definition more in a row, and one less
 pub put_in_row : (s : ℕ) (new : Defined) (row : List Defined)
-    → with_selector s (place classes_at are_classes_before are_same new row) ≡ place_definition (definition_of s new) (with_selector s row)
+    → with_selector s (insert_by_key classes_at are_classes_before are_same new row) ≡ insert_definition (definition_of s new) (with_selector s row)
 put_in_row s new row =
-    map-place (definition_of s) classes_at are_classes_before are_same key_of is_key_before is_same_key
+    map-insert (definition_of s) classes_at are_classes_before are_same key_of is_key_before is_same_key
     (before_within s) (λ x y. is_within s x.classes y) new row
 
 pub gone_from_row : (s : ℕ) (classes : List ℕ) (row : List Defined)

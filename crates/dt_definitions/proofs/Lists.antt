@@ -5,11 +5,11 @@ use Rattle.std.proofs.lemmas.Bool.{eq-eqb, ne_eqb}
 use Rattle.std.proofs.lemmas.Bool.Decides.{nat_tests}
 use Rattle.std.proofs.lemmas.List.{append-nil}
 use Rattle.std.proofs.lemmas.List.Elements.{All-nil, All-cons, filter-append}
-use Rattle.dt_definitions.specs.Program.{Definition, is_definition, place_definition, key_of, is_key_before, is_same_key}
+use Rattle.dt_definitions.specs.Program.{Definition, is_definition, insert_definition, key_of, is_key_before, is_same_key}
 use Rattle.dt_definitions.specs.SelectorLists.{SelectorList, definition_of, with_selector, definitions_from, NoneDefined}
 use Rattle.dt_definitions.specs.declared.defined.Defined.{Defined}
 use Rattle.dt_definitions.proofs.DefinitionOrder.{key_order}
-use Rattle.dt_graph.proofs.InOrder.{place_first}
+use Rattle.dt_graph.proofs.InOrder.{inserted_first}
 
 -- rows with no definition have none together
 pub none_from_empty : (k : ℕ) (rows : List SelectorList) → NoneDefined rows → definitions_from k rows ≡ []
@@ -66,14 +66,14 @@ abbrev StandsFirst : Definition → List Definition → Type 0
 StandsFirst d ds = All (λ e. IsTrue (is_key_before (key_of d) (key_of e))) ds
 
 -- placing in front of what stands behind, and behind what stands in front
-place_left : (d : Definition) (xs ys : List Definition) → StandsFirst d ys → place_definition d (xs ++ ys) ≡ place_definition d xs ++ ys
-place_left d [] ys h = place_first key_of is_key_before is_same_key key_order d ys h
-place_left d (e ∷ xs) ys h = let r = place_left d xs ys h in grind arith
+insert_left : (d : Definition) (xs ys : List Definition) → StandsFirst d ys → insert_definition d (xs ++ ys) ≡ insert_definition d xs ++ ys
+insert_left d [] ys h = inserted_first key_of is_key_before is_same_key key_order d ys h
+insert_left d (e ∷ xs) ys h = let r = insert_left d xs ys h in grind arith
 
-place_right : (d : Definition) (k : ℕ) (row : List Defined) (ys : List Definition)
-    → k < d.selector → place_definition d (with_selector k row ++ ys) ≡ with_selector k row ++ place_definition d ys
-place_right d k [] ys l = refl
-place_right d k (e ∷ row) ys l = let r = place_right d k row ys l in grind (arith, nat_tests)
+insert_right : (d : Definition) (k : ℕ) (row : List Defined) (ys : List Definition)
+    → k < d.selector → insert_definition d (with_selector k row ++ ys) ≡ with_selector k row ++ insert_definition d ys
+insert_right d k [] ys l = refl
+insert_right d k (e ∷ row) ys l = let r = insert_right d k row ys l in grind (arith, nat_tests)
 
 first_of_row : (d : Definition) (k : ℕ) (row : List Defined) (ys : List Definition)
     → d.selector < k → StandsFirst d ys → StandsFirst d (with_selector k row ++ ys)
@@ -86,19 +86,19 @@ first_of_rows d k [] l = All-nil (λ e. IsTrue (is_key_before (key_of d) (key_of
 first_of_rows d k (row ∷ rows) l = first_of_row d k row.defined (definitions_from (k + 1) rows) l (first_of_rows d (k + 1) rows (omega arith))
 
 -- placing a definition changes its selector's row
-pub place_row : (rows : List SelectorList) (k i : ℕ) (d : Definition) (r new : SelectorList)
+pub insert_row : (rows : List SelectorList) (k i : ℕ) (d : Definition) (r new : SelectorList)
     → d.selector ≡ k + i → i < length rows → r ≡ get_or rows i r
-    → with_selector d.selector new.defined ≡ place_definition d (with_selector d.selector r.defined)
-    → definitions_from k (set rows i new) ≡ place_definition d (definitions_from k rows)
-place_row [] k i d r new e l g h = absurd (omega arith)
-place_row (row ∷ rows) k zero d r new e l g h =
+    → with_selector d.selector new.defined ≡ insert_definition d (with_selector d.selector r.defined)
+    → definitions_from k (set rows i new) ≡ insert_definition d (definitions_from k rows)
+insert_row [] k i d r new e l g h = absurd (omega arith)
+insert_row (row ∷ rows) k zero d r new e l g h =
     let q : d.selector ≡ k = omega arith in
-    let left = place_left d (with_selector k row.defined) (definitions_from (k + 1) rows) (first_of_rows d (k + 1) rows (omega arith)) in
-    let h' : with_selector k new.defined ≡ place_definition d (with_selector k row.defined) = subst (λ s. with_selector s new.defined ≡ place_definition d (with_selector s row.defined)) q (rw g at h) in
+    let left = insert_left d (with_selector k row.defined) (definitions_from (k + 1) rows) (first_of_rows d (k + 1) rows (omega arith)) in
+    let h' : with_selector k new.defined ≡ insert_definition d (with_selector k row.defined) = subst (λ s. with_selector s new.defined ≡ insert_definition d (with_selector s row.defined)) q (rw g at h) in
     rw h' (sym left)
-place_row (row ∷ rows) k (suc i) d r new e l g h =
-    let right = place_right d k row.defined (definitions_from (k + 1) rows) (omega arith) in
-    let rest = place_row rows (k + 1) i d r new (omega arith) (omega arith) g h in
+insert_row (row ∷ rows) k (suc i) d r new e l g h =
+    let right = insert_right d k row.defined (definitions_from (k + 1) rows) (omega arith) in
+    let rest = insert_row rows (k + 1) i d r new (omega arith) (omega arith) g h in
     rw rest (sym right)
 
 -- taking a definition away changes its selector's row

@@ -2,7 +2,7 @@
 use Rattle.std.proofs.Common.{◌≡◌, ◌+◌, true, false, not, ◌&&◌, List, length, is_none, Ok, Err, IsTrue, refl, ap, ◌∙◌, arith}
 use Rattle.std.specs.List.{list_any}
 use Rattle.std.proofs.lemmas.Bool.{false≢true, and_parts}
-use Rattle.dt_definitions.specs.Program.{Definition, Program, is_definition, place_definition, key_of, is_key_before, is_same_key}
+use Rattle.dt_definitions.specs.Program.{Definition, Program, is_definition, insert_definition, key_of, is_key_before, is_same_key}
 use Rattle.dt_definitions.specs.Step.{has_definition, refusal, effect, step}
 use Rattle.dt_definitions.specs.MemoryLaws.{OneMoreTakesMemory, MemoryIsForOneMore, RefusedEditsTakeNone, WithoutTheTestDecided, WithoutTheTestDecidedBatch, DecidedIsFree, DecidedBatchIsFree}
 use Rattle.dt_definitions.specs.declared.edit.Edit.{Edit}
@@ -11,14 +11,14 @@ use Rattle.dt_definitions.specs.declared.why.ApplyFault.TheVariants as apply_fau
 use Rattle.dt_definitions.specs.declared.why.BatchFault.TheVariants as batch_fault
 use Rattle.dt_definitions.proofs.AnswerLaws.{ok_has_no_cause, refusals_are_the_first_cause}
 use Rattle.dt_definitions.proofs.DefinitionOrder.{key_order}
-use Rattle.dt_definitions.proofs.Lengths.{length-place_new, length-place_again}
+use Rattle.dt_definitions.proofs.Lengths.{length-insert_new, length-insert_again}
 use Rattle.dt_definitions.proofs.Steps.{few-filter}
 
 -- how many definitions there are with one that was not there, and with one that was
 length_with_new : (d : Definition) (ds : List Definition) → list_any (is_definition d.selector d.classes) ds ≡ false
-    → length (place_definition d ds) ≡ length ds + 1
+    → length (insert_definition d ds) ≡ length ds + 1
 length_with_new d ds absent =
-    length-place_new key_of is_key_before is_same_key key_order d ds absent
+    length-insert_new key_of is_key_before is_same_key key_order d ds absent
 
 -- an accepted edit has its effect, of so many definitions
 so_many : (p q : Program) (edit : Edit) → step p edit ≡ Ok q → length q.definitions ≡ length (effect p edit).definitions
@@ -33,7 +33,7 @@ one_more_takes_memory p q (AddSelector selector arity) l h n = absurd (omega (ar
 one_more_takes_memory p q (DropSelector selector) l h n = absurd (omega (arith, n, so_many p q (DropSelector selector) h))
 one_more_takes_memory p q (Define selector classes body) l h n =
     let d : Definition = record { selector = selector; classes = classes; body = body } in
-    let again = length-place_again key_of is_key_before is_same_key key_order d p.definitions l.definitions_ascend in
+    let again = length-insert_again key_of is_key_before is_same_key key_order d p.definitions l.definitions_ascend in
     let none = (ok_has_no_cause p q (Define selector classes body) h).0 in
     elim (has_definition p selector classes) as (λ t. has_definition p selector classes ≡ t
     → IsTrue (is_none (refusal p (Define selector classes body)) && not t)) [

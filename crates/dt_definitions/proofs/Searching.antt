@@ -5,7 +5,7 @@ use Rattle.std.specs.Prelude.{Some, None, Ok, Err, is_some}
 use Rattle.std.proofs.lemmas.Bool.{false≢true}
 use Rattle.std.proofs.lemmas.List.{get_or_default}
 use Rattle.std.proofs.lemmas.List.Elements.{All-weaker}
-use Rattle.dt_graph.specs.InOrder.{StrictOrder, Ascends, place, find_at, without}
+use Rattle.dt_graph.specs.InOrder.{StrictOrder, Ascends, insert_by_key, find_at, without}
 use Rattle.dt_graph.proofs.InOrder.{first_before_all, Ascends-tail, none_found, without_none}
 use Rattle.dt_definitions.specs.Search.{first_place, Searched}
 
@@ -104,7 +104,7 @@ module _ {X K : Type 0} (key : X → K) (before same : K → K → Bool) (order 
   set_first : (new : X) (xs : List X) (d : X)
       → first_place key before (key new) xs < length xs
       → IsTrue (same (key new) (key (get_or xs (first_place key before (key new) xs) d)))
-      → set xs (first_place key before (key new) xs) new ≡ place key before same new xs
+      → set xs (first_place key before (key new) xs) new ≡ insert_by_key key before same new xs
   set_first new [] d l s = absurd (omega arith)
   set_first new (x ∷ xs) d l s =
       let r = set_first new xs d in
@@ -114,7 +114,7 @@ module _ {X K : Type 0} (key : X → K) (before same : K → K → Bool) (order 
       grind arith
 
   insert_first : (new : X) (xs : List X) → find_at key same (key new) xs ≡ None
-      → insert xs (first_place key before (key new) xs) new ≡ place key before same new xs
+      → insert xs (first_place key before (key new) xs) new ≡ insert_by_key key before same new xs
   insert_first new [] h = refl
   insert_first new (x ∷ xs) h =
       let r = insert_first new xs in
@@ -163,10 +163,10 @@ module _ {X K : Type 0} (key : X → K) (before same : K → K → Bool) (order 
       b ∙ ap Some (sym (subst (λ j. x ≡ get_or xs j x) f.0 r))
 
   module _ (new : X) (xs : List X) (i : ℕ) where
-    pub put_found : Searched key before same (key new) xs (Ok i) → set xs i new ≡ place key before same new xs
+    pub put_found : Searched key before same (key new) xs (Ok i) → set xs i new ≡ insert_by_key key before same new xs
     put_found f = rw f.0 (set_first new xs new (rw f.0 at f.1) (rw f.0 at f.2 new))
 
-    pub put_absent : Searched key before same (key new) xs (Err i) → insert xs i new ≡ place key before same new xs
+    pub put_absent : Searched key before same (key new) xs (Err i) → insert xs i new ≡ insert_by_key key before same new xs
     put_absent f = rw f.0 (insert_first new xs f.1)
 
   pub absent_within : (k : K) (xs : List X) (i : ℕ) → Searched key before same k xs (Err i) → i ≤ length xs
@@ -181,11 +181,11 @@ module _ {X K : Type 0} (key : X → K) (before same : K → K → Bool) (order 
 module _ {X Y K L : Type 0} (f : X → Y) (key : X → K) (before same : K → K → Bool) (key' : Y → L) (before' same' : L → L → Bool)
     (b : (x y : X) → before' (key' (f x)) (key' (f y)) ≡ before (key x) (key y))
     (s : (x y : X) → same' (key' (f x)) (key' (f y)) ≡ same (key x) (key y)) where
-  pub map-place : (new : X) (xs : List X)
-      → map f (place key before same new xs) ≡ place key' before' same' (f new) (map f xs)
-  map-place new [] = refl
-  map-place new (x ∷ xs) =
-      let r = map-place new xs in let p = b new x in let q = s new x in grind arith
+  pub map-insert : (new : X) (xs : List X)
+      → map f (insert_by_key key before same new xs) ≡ insert_by_key key' before' same' (f new) (map f xs)
+  map-insert new [] = refl
+  map-insert new (x ∷ xs) =
+      let r = map-insert new xs in let p = b new x in let q = s new x in grind arith
 
 module _ {X Y K L : Type 0} (f : X → Y) (key : X → K) (same : K → K → Bool) (key' : Y → L) (same' : L → L → Bool) (k : K) (l : L)
     (s : (x : X) → same' l (key' (f x)) ≡ same k (key x)) where

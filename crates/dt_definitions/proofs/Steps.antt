@@ -5,7 +5,7 @@ use Rattle.std.proofs.lemmas.Bool.{leb-false}
 use Rattle.dt_graph.specs.Refusal.{cause_if, first_cause, ok_unless}
 use Rattle.dt_graph.specs.GraphChange.{first_unknown}
 use Rattle.dt_selectors.specs.Selectors.{has_selector}
-use Rattle.dt_definitions.specs.Program.{Definition, Program, is_definition, place_definition, key_of, is_key_before, is_same_key}
+use Rattle.dt_definitions.specs.Program.{Definition, Program, is_definition, insert_definition, key_of, is_key_before, is_same_key}
 use Rattle.dt_definitions.specs.Lawful.{AscendingDefinitions}
 use Rattle.dt_definitions.specs.Step.{why_of, has_definition, arity_differs, refusal, effect, step, with_definitions}
 use Rattle.dt_definitions.specs.Memory.{may_want_memory}
@@ -16,7 +16,7 @@ use Rattle.dt_graph.specs.declared.graph_fault.GraphFault.{GraphFault}
 use Rattle.dt_definitions.specs.declared.why.Why.{Why}
 use Rattle.dt_definitions.specs.declared.why.Why.TheVariants as why
 use Rattle.dt_definitions.proofs.DefinitionOrder.{key_order}
-use Rattle.dt_definitions.proofs.Lengths.{length-place_new, length-place_again}
+use Rattle.dt_definitions.proofs.Lengths.{length-insert_new, length-insert_again}
 
 pub refused : (p : Program) (edit : Edit) (cause : Why) → Some cause ≡ refusal p edit → step p edit ≡ Err cause
 refused p edit cause h = ap (λ r. ok_unless r (effect p edit)) (sym h)
@@ -39,14 +39,14 @@ not_caused true cause h = cc
 not_caused false cause h = refl
 
 -- a definition that may be made leaves no more definitions than there may be
-pub few-place : (d : Definition) (ds : List Definition)
+pub few-insert : (d : Definition) (ds : List Definition)
     → AscendingDefinitions ds → length ds ≤ DEFINITIONS
     → (leb DEFINITIONS (length ds) && not (list_any (is_definition d.selector d.classes) ds)) ≡ false
-    → length (place_definition d ds) ≤ DEFINITIONS
-few-place d ds u l h =
-    let n = length-place_new key_of is_key_before is_same_key key_order d ds in
-    let a = length-place_again key_of is_key_before is_same_key key_order d ds u in
-    elim (list_any (is_definition d.selector d.classes) ds) as (λ t. list_any (is_definition d.selector d.classes) ds ≡ t → (leb DEFINITIONS (length ds) && not t) ≡ false → length (place_definition d ds) ≤ DEFINITIONS) [
+    → length (insert_definition d ds) ≤ DEFINITIONS
+few-insert d ds u l h =
+    let n = length-insert_new key_of is_key_before is_same_key key_order d ds in
+    let a = length-insert_again key_of is_key_before is_same_key key_order d ds u in
+    elim (list_any (is_definition d.selector d.classes) ds) as (λ t. list_any (is_definition d.selector d.classes) ds ≡ t → (leb DEFINITIONS (length ds) && not t) ≡ false → length (insert_definition d ds) ≤ DEFINITIONS) [
       | true ↦ λ there _. omega (arith, a there)
       | false ↦ λ absent full.
           let few : leb DEFINITIONS (length ds) ≡ false = grind arith in
@@ -88,7 +88,7 @@ may_define p selector classes body h =
 -- the step of a definition that may be made
 pub defined_step : (p : Program) (s : ℕ) (cs : List ℕ) (body : ℕ) (new : List Definition)
     → None ≡ refusal p (Define s cs body)
-    → new ≡ place_definition (record { selector = s; classes = cs; body = body }) p.definitions
+    → new ≡ insert_definition (record { selector = s; classes = cs; body = body }) p.definitions
     → step p (Define s cs body) ≡ Ok (with_definitions p new)
 defined_step p s cs body new h e = accepted p (Define s cs body) h ∙ rw e refl
 

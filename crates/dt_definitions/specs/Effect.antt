@@ -2,8 +2,8 @@
 use Rattle.std.specs.Prelude.{not, List, filter}
 use Rattle.dt_graph.specs.Graph.{Graph}
 use Rattle.dt_graph.specs.GraphChange.{add_effect, drop_effect, link_effect, unlink_effect}
-use Rattle.dt_selectors.specs.Selectors.{Selector, place_selector, without_selector}
-use Rattle.dt_definitions.specs.Program.{Definition, Program, is_definition, place_definition}
+use Rattle.dt_selectors.specs.Selectors.{Selector, insert_selector, without_selector}
+use Rattle.dt_definitions.specs.Program.{Definition, Program, is_definition, insert_definition}
 use Rattle.dt_definitions.specs.declared.edit.Edit.{Edit}
 use Rattle.dt_definitions.specs.declared.edit.Edit.TheVariants.{AddClass, DropClass, Link, Unlink, AddSelector, DropSelector, Define, Undefine}
 
@@ -24,9 +24,9 @@ effect p (DropClass class) = with_graph p (drop_effect p.graph class)
 effect p (Link class parent) = with_graph p (link_effect p.graph class parent)
 effect p (Unlink class parent) = with_graph p (unlink_effect p.graph class parent)
 effect p (AddSelector selector arity) =
-    with_selectors p (place_selector (record { number = selector; arity = arity }) p.selectors)
+    with_selectors p (insert_selector (record { number = selector; arity = arity }) p.selectors)
 effect p (DropSelector selector) = with_selectors p (without_selector p.selectors selector)
 effect p (Define selector classes body) = with_definitions p
-    (place_definition (record { selector = selector; classes = classes; body = body }) p.definitions)
+    (insert_definition (record { selector = selector; classes = classes; body = body }) p.definitions)
 effect p (Undefine selector classes) =
     with_definitions p (filter (λ d. not (is_definition selector classes d)) p.definitions)

@@ -2,7 +2,7 @@
 use Rattle.std.specs.Prelude.{◌≡◌, ℕ, ◌≤◌, ◌<◌, IsTrue, List, [], length, map, filter, Result, IsSome, slice_index_or}
 use Rattle.dt_graph.specs.Graph.{has_number}
 use Rattle.dt_graph.specs.declared.limits.TheConstants.{CLASSES}
-use Rattle.dt_graph.specs.InOrder.{Ascends, place, find_at, without}
+use Rattle.dt_graph.specs.InOrder.{Ascends, insert_by_key, find_at, without}
 use Rattle.dt_definitions.specs.Program.{Definition, key_of, is_key_before, is_same_key}
 use Rattle.dt_definitions.specs.Search.{Searched}
 use Rattle.dt_definitions.specs.declared.definition_key.DefinitionKey.{DefinitionKey}
@@ -22,8 +22,8 @@ abbrev pub itself : DefinitionKey → DefinitionKey
 itself k = k
 
 -- the list with one more, and with one less
-abbrev pub place_key : DefinitionKey → List DefinitionKey → List DefinitionKey
-place_key k keys = place itself is_key_before is_same_key k keys
+abbrev pub insert_key : DefinitionKey → List DefinitionKey → List DefinitionKey
+insert_key k keys = insert_by_key itself is_key_before is_same_key k keys
 
 abbrev pub without_key : DefinitionKey → List DefinitionKey → List DefinitionKey
 without_key k keys = without itself is_same_key k keys

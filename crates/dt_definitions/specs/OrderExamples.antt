@@ -1,6 +1,6 @@
 -- Worked examples of places, of the order of definitions, and of when an edit takes memory.
 use Rattle.std.specs.Prelude.{◌≡◌, ℕ, true, false, List, [], ◌∷◌, None, Some, Err, refl}
-use Rattle.dt_definitions.specs.Program.{Definition, Program, empty_program, arity_of, same_classes, are_classes_before, is_definition, is_definition_before, place_definition, definitions_of, body_of}
+use Rattle.dt_definitions.specs.Program.{Definition, Program, empty_program, arity_of, same_classes, are_classes_before, is_definition, is_definition_before, insert_definition, definitions_of, body_of}
 use Rattle.dt_definitions.specs.Nth.{nth}
 use Rattle.dt_definitions.specs.Step.{is_named, is_defined, has_definition, arity_differs, refusal, effect, step_from, stepped, after, fault_at, why_of}
 use Rattle.dt_definitions.specs.Memory.{may_want_memory, batch_may_want_memory}
@@ -64,11 +64,11 @@ of_any_body = refl
 of_another_selector : is_definition 5 (9 ∷ []) (at 4 (9 ∷ []) 1) ≡ false
 of_another_selector = refl
 
-between : place_definition (at 4 (5 ∷ []) 2) (at 4 (1 ∷ []) 1 ∷ at 4 (9 ∷ []) 3 ∷ [])
+between : insert_definition (at 4 (5 ∷ []) 2) (at 4 (1 ∷ []) 1 ∷ at 4 (9 ∷ []) 3 ∷ [])
     ≡ at 4 (1 ∷ []) 1 ∷ at 4 (5 ∷ []) 2 ∷ at 4 (9 ∷ []) 3 ∷ []
 between = refl
 
-in_place_of_the_last : place_definition (at 4 (9 ∷ []) 2) (at 4 (1 ∷ []) 1 ∷ at 4 (9 ∷ []) 3 ∷ [])
+in_place_of_the_last : insert_definition (at 4 (9 ∷ []) 2) (at 4 (1 ∷ []) 1 ∷ at 4 (9 ∷ []) 3 ∷ [])
     ≡ at 4 (1 ∷ []) 1 ∷ at 4 (9 ∷ []) 2 ∷ []
 in_place_of_the_last = refl
 

@@ -1,7 +1,7 @@
 -- A program: the class graph, the selectors with their arity, and the definitions of selectors at lists of classes.
 use Rattle.std.specs.Prelude.{◌==◌, ℕ, Bool, false, true, ◌&&◌, ◌||◌, nat_lt, List, [], ◌∷◌, Option, filter, find}
 use Rattle.std.specs.Option.{option_map}
-use Rattle.dt_graph.specs.InOrder.{place}
+use Rattle.dt_graph.specs.InOrder.{insert_by_key}
 use Rattle.dt_graph.specs.SameLists.{same_list}
 use Rattle.dt_graph.specs.Graph.{Graph, empty_graph}
 use Rattle.dt_selectors.specs.Selectors.{Selector, arity_in}
@@ -61,8 +61,8 @@ abbrev pub is_same_key : DefinitionKey → DefinitionKey → Bool
 is_same_key a b = (b.selector == a.selector) && same_classes b.classes a.classes
 
 -- the definitions with this one, in ascending order; one of the same selector and classes is replaced
-abbrev pub place_definition : Definition → List Definition → List Definition
-place_definition definition definitions = place key_of is_key_before is_same_key definition definitions
+abbrev pub insert_definition : Definition → List Definition → List Definition
+insert_definition definition definitions = insert_by_key key_of is_key_before is_same_key definition definitions
 
 -- the definitions of the selector
 abbrev pub definitions_of : Program → ℕ → List Definition

@@ -2,7 +2,7 @@ ghost use Rattle.std.specs.Prelude.{◌≡◌, ◌==◌, ℕ, ◌≤◌, [], len
 ghost use Rattle.std.specs.List.{list_any};
 ghost use Rattle.dt_graph.specs.Graph.{has_number};
 ghost use Rattle.dt_definitions.specs.declared.limits.TheConstants.{DEFINITIONS};
-ghost use Rattle.dt_definitions.specs.Program.{is_definition, place_definition, body_of};
+ghost use Rattle.dt_definitions.specs.Program.{is_definition, insert_definition, body_of};
 ghost use Rattle.dt_definitions.specs.Naming.{naming};
 ghost use Rattle.dt_definitions.specs.SelectorLists.{with_selector, definitions_from, rooms_of, HasRoomFor, ListRoomFor, RoomStays, NoneShrinks, NoneDefined, HaveSameDefinitions};
 
@@ -54,7 +54,7 @@ fn put_in(
 ) -> Result<bool, NoMemory>
     requires { length rows.old.items ≡ SELECTORS }
     ensures ok { OnOk result (definitions_from 0 rows.new.items
-        ≡ place_definition (record { selector = selector; classes = classes; body = body }) (definitions_from 0 rows.old.items)) }
+        ≡ insert_definition (record { selector = selector; classes = classes; body = body }) (definitions_from 0 rows.old.items)) }
     ensures is_new { IfOk result (λ is_new. is_new ≡ not (list_any (is_definition selector classes) (definitions_from 0 rows.old.items))) }
     ensures err { OnErr result (definitions_from 0 rows.new.items ≡ definitions_from 0 rows.old.items) }
     ensures all_selectors { length rows.new.items ≡ SELECTORS }
@@ -165,7 +165,7 @@ impl AllDefinitions {
     fn put_again(&mut self, selector: SelNo, classes: Tuple, body: BodyNo) -> Result<(), NoMemory>
         requires { IsTrue (list_any (is_definition selector classes) self.old.all) }
         ensures ok { OnOk result (self.new.all
-            ≡ place_definition (record { selector = selector; classes = classes; body = body }) self.old.all) }
+            ≡ insert_definition (record { selector = selector; classes = classes; body = body }) self.old.all) }
         ensures err { OnErr result (self.new.all ≡ self.old.all) }
         ensures room_stays { RoomStays self.old.rooms self.new.rooms }
         ensures succeeds { IsOk result }
@@ -179,7 +179,7 @@ impl AllDefinitions {
         requires absent { list_any (is_definition selector classes) self.old.all ≡ false }
         requires few { length self.old.all ≤ DEFINITIONS }
         ensures ok { OnOk result (self.new.all
-            ≡ place_definition (record { selector = selector; classes = classes; body = body }) self.old.all) }
+            ≡ insert_definition (record { selector = selector; classes = classes; body = body }) self.old.all) }
         ensures err { OnErr result (self.new.all ≡ self.old.all) }
         ensures room_stays { RoomStays self.old.rooms self.new.rooms }
         ensures succeeds { HasRoomFor self.old selector classes → IsOk result }
@@ -201,7 +201,7 @@ impl AllDefinitions {
     ) -> Result<(), NoMemory>
         requires { length self.old.all ≤ DEFINITIONS }
         ensures ok { OnOk result (self.new.all
-            ≡ place_definition (record { selector = selector; classes = classes; body = body }) self.old.all) }
+            ≡ insert_definition (record { selector = selector; classes = classes; body = body }) self.old.all) }
         ensures err { OnErr result (self.new.all ≡ self.old.all) }
         ensures room_stays { RoomStays self.old.rooms self.new.rooms }
         ensures succeeds { HasRoomFor self.old selector classes → IsOk result }

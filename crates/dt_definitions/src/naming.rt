@@ -2,7 +2,7 @@ ghost use Rattle.std.specs.Prelude.{◌≡◌, ◌<◌, ◌≤◌, [], length, I
 ghost use Rattle.dt_graph.specs.InOrder.{find_at};
 ghost use Rattle.dt_definitions.specs.Program.{is_key_before, is_same_key};
 ghost use Rattle.dt_definitions.specs.Search.{first_place};
-ghost use Rattle.dt_definitions.specs.Naming.{itself, place_key, without_key, KeysAscend, KeySearched};
+ghost use Rattle.dt_definitions.specs.Naming.{itself, insert_key, without_key, KeysAscend, KeySearched};
 
 use crate::class_order::{is_before, is_same};
 use crate::definition_key::DefinitionKey;
@@ -107,7 +107,7 @@ impl Naming {
     // Puts the key into its place. There is room.
     pub(crate) fn insert(&mut self, key: &DefinitionKey)
         requires { length self.old.keys < self.old.room }
-        ensures keys { self.new.keys ≡ place_key key.now self.old.keys }
+        ensures keys { self.new.keys ≡ insert_key key.now self.old.keys }
         ensures room_stays { self.old.room ≤ self.new.room }
     {
         match search_keys(&self.keys, key.selector, key.classes.classes()) {

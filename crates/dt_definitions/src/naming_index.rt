@@ -1,6 +1,6 @@
 ghost use Rattle.std.specs.Prelude.{◌≡◌, ℕ, ◌<◌, [], length, if◌then◌else◌, IsTrue, IsOk, IsSome, IfOk, OnOk};
 ghost use Rattle.dt_graph.specs.Graph.{has_number};
-ghost use Rattle.dt_definitions.specs.Naming.{place_key, without_key, keys_at, HasRoomIn, HasRoomAgain, KeysStay, RoomsGrow};
+ghost use Rattle.dt_definitions.specs.Naming.{insert_key, without_key, keys_at, HasRoomIn, HasRoomAgain, KeysStay, RoomsGrow};
 
 use crate::definition_key::DefinitionKey;
 use crate::naming::Naming;
@@ -59,7 +59,7 @@ fn insert_in(lists: &mut Vec<Naming>, key: &DefinitionKey)
     requires room { HasRoomIn lists.old.items key.now.classes }
     ensures all_classes { length lists.new.items ≡ CLASSES }
     ensures keys { (class : ℕ) → keys_at lists.new.items class
-        ≡ (if has_number key.now.classes class then place_key key.now (keys_at lists.old.items class) else keys_at lists.old.items class) }
+        ≡ (if has_number key.now.classes class then insert_key key.now (keys_at lists.old.items class) else keys_at lists.old.items class) }
     ensures room_stays { RoomsGrow lists.old.items lists.new.items }
 {
     let classes = key.classes.classes();
@@ -143,7 +143,7 @@ impl NamingIndex {
     pub(crate) fn insert(&mut self, key: &DefinitionKey)
         requires { HasRoomIn self.old key.now.classes }
         ensures keys { (class : ℕ) → keys_at self.new class
-            ≡ (if has_number key.now.classes class then place_key key.now (keys_at self.old class) else keys_at self.old class) }
+            ≡ (if has_number key.now.classes class then insert_key key.now (keys_at self.old class) else keys_at self.old class) }
         ensures room_stays { RoomsGrow self.old self.new }
     {
         insert_in(&mut self.lists, key);

@@ -1,5 +1,5 @@
 ghost use Rattle.std.specs.Prelude.{◌≡◌, ℕ, ◌<◌, ◌≤◌, [], length, filter, not, is_some, is_none, None, IsTrue, IsOk, IfOk, OnErr, OnOk};
-ghost use Rattle.dt_definitions.specs.Program.{are_classes_before, place_definition, is_definition};
+ghost use Rattle.dt_definitions.specs.Program.{are_classes_before, insert_definition, is_definition};
 ghost use Rattle.dt_definitions.specs.SelectorLists.{ListAscends, ListSearched, classes_at, with_selector, body_in};
 ghost use Rattle.dt_definitions.specs.Search.{first_place};
 
@@ -93,7 +93,7 @@ impl SelectorDefinitions {
     pub(crate) fn put(&mut self, classes: Tuple, body: BodyNo) -> Result<bool, NoMemory>
         ensures is_new { IfOk result (λ is_new. is_new ≡ is_none (body_in self.old.defined classes)) }
         ensures ok { OnOk result ((selector : ℕ) → with_selector selector self.new.defined
-            ≡ place_definition (record { selector = selector; classes = classes; body = body }) (with_selector selector self.old.defined)) }
+            ≡ insert_definition (record { selector = selector; classes = classes; body = body }) (with_selector selector self.old.defined)) }
         ensures err { OnErr result (self.new.defined ≡ self.old.defined) }
         ensures room_stays { self.old.room ≤ self.new.room }
         ensures succeeds { (body_in self.old.defined classes ≡ None → length self.old.defined < self.old.room) → IsOk result }

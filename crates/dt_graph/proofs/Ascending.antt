@@ -3,9 +3,9 @@ use Rattle.std.proofs.Common.{◌≡◌, ◌==◌, ℕ, ◌<◌, Bool, IsTrue, L
 use Rattle.std.proofs.lemmas.Bool.{and_parts}
 use Rattle.std.proofs.lemmas.Bool.Decides.{nat_tests}
 use Rattle.dt_graph.specs.InOrder.{StrictOrder}
-use Rattle.dt_graph.specs.Graph.{Link, has_number, is_link, is_link_before, place_number, place_link, AscendingLinks}
+use Rattle.dt_graph.specs.Graph.{Link, has_number, is_link, is_link_before, insert_number, insert_link, AscendingLinks}
 use Rattle.dt_graph.specs.Lawful.{AscendingNumbers}
-use Rattle.dt_graph.proofs.InOrder.{Ascends-tail, Ascends-place, Ascends-filter, Ascends-cons, first_before_all}
+use Rattle.dt_graph.proofs.InOrder.{Ascends-tail, Ascends-insert, Ascends-filter, Ascends-cons, first_before_all}
 use Rattle.dt_graph.proofs.LinkLists.{each_number}
 
 pub number_order : StrictOrder nat_lt (λ a b. a == b)
@@ -17,8 +17,8 @@ number_order = record {
   reflexive = λ a. eq-eqb a a refl;
 }
 
-pub AscendingNumbers-placed : (new : ℕ) (numbers : List ℕ) → AscendingNumbers numbers → AscendingNumbers (place_number new numbers)
-AscendingNumbers-placed new numbers ascending = Ascends-place (λ n. n) nat_lt (λ a b. a == b) number_order new numbers ascending
+pub AscendingNumbers-placed : (new : ℕ) (numbers : List ℕ) → AscendingNumbers numbers → AscendingNumbers (insert_number new numbers)
+AscendingNumbers-placed new numbers ascending = Ascends-insert (λ n. n) nat_lt (λ a b. a == b) number_order new numbers ascending
 
 pub AscendingNumbers-filter : (test : ℕ → Bool) (numbers : List ℕ) → AscendingNumbers numbers → AscendingNumbers (filter test numbers)
 AscendingNumbers-filter test numbers ascending = Ascends-filter (λ n. n) nat_lt (λ a b. a == b) number_order test numbers ascending
@@ -47,8 +47,8 @@ order_of_links = record {
   reflexive = λ a. grind (arith, nat_tests);
 }
 
-pub AscendingLinks-placed : (new : Link) (links : List Link) → AscendingLinks links → AscendingLinks (place_link new links)
-AscendingLinks-placed new links ascending = Ascends-place (λ l. l) is_link_before (λ a b. is_link a.class a.parent b) order_of_links new links ascending
+pub AscendingLinks-placed : (new : Link) (links : List Link) → AscendingLinks links → AscendingLinks (insert_link new links)
+AscendingLinks-placed new links ascending = Ascends-insert (λ l. l) is_link_before (λ a b. is_link a.class a.parent b) order_of_links new links ascending
 
 pub AscendingLinks-filter : (test : Link → Bool) (links : List Link) → AscendingLinks links → AscendingLinks (filter test links)
 AscendingLinks-filter test links ascending = Ascends-filter (λ l. l) is_link_before (λ a b. is_link a.class a.parent b) order_of_links test links ascending

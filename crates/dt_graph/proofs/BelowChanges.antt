@@ -2,7 +2,7 @@
 use Rattle.std.proofs.Common.{◌≡◌, ◌==◌, ℕ, Bool, ◌&&◌, ◌||◌, IsTrue, List, [], ◌∷◌, sym, subst, ◌∙◌, ⊎_elim, eqb-true, eq-eqb}
 use Rattle.std.proofs.lemmas.Bool.{or_cases, or_left, or_right}
 use Rattle.std.specs.List.{list_any}
-use Rattle.dt_graph.specs.Graph.{Link, has_link, place_link}
+use Rattle.dt_graph.specs.Graph.{Link, has_link, insert_link}
 use Rattle.dt_graph.specs.Below.{Leads, is_below}
 use Rattle.dt_graph.specs.Parents.{parents_of}
 use Rattle.dt_graph.proofs.Walks.{IsBelow-from_test, is_below-from_steps, is_below_self, is_below_step, is_below_more}
@@ -19,8 +19,8 @@ is_below_same links more same a b = same_truth (is_below links a b) (is_below mo
     (is_below_more more links (λ a b linked. same a b ∙ linked) a b)
 
 -- a way uses the new link not at all, or leads to its class and on from its parent
-pub is_below_placed : (link : Link) (links : List Link) (a b : ℕ) → is_below (place_link link links) a b ≡ (is_below links a b || (is_below links a link.class && is_below links link.parent b))
-is_below_placed link links a b = is_below_same (place_link link links) (link ∷ links) (has_link-placed link links) a b
+pub is_below_placed : (link : Link) (links : List Link) (a b : ℕ) → is_below (insert_link link links) a b ≡ (is_below links a b || (is_below links a link.class && is_below links link.parent b))
+is_below_placed link links a b = is_below_same (insert_link link links) (link ∷ links) (has_link-placed link links) a b
 
 -- ---- by way of the parents
 

@@ -10,7 +10,7 @@ use Rattle.std.specs.List.{range_with_len}
 use Rattle.std.specs.Int.RustNames.{count_ones}
 use lib.Count.{ones_step}
 use native.Mathlib.Nat.{two-pow-succ}
-use Rattle.dt_graph.specs.Graph.{has_number, place_number}
+use Rattle.dt_graph.specs.Graph.{has_number, insert_number}
 use Rattle.dt_graph.specs.Lawful.{AscendingNumbers}
 use Rattle.dt_graph.specs.ClassSet.{has_bit, numbers_below}
 use Rattle.dt_graph.proofs.LinkLists.{has_number-filter, has_number-kept, has_number-placed, all_numbers}
@@ -161,10 +161,10 @@ has_bit-clear words c n inside =
     ]
 
 pub inserted : (limit : ℕ) (words numbers : List ℕ) (c : ℕ) → numbers_below limit words ≡ numbers → limit ≡ 64 * length words → c < limit
-    → numbers_below limit (set words (c / 64) (with_bit (get_or words (c / 64) 0) c)) ≡ place_number c numbers
+    → numbers_below limit (set words (c / 64) (with_bit (get_or words (c / 64) 0) c)) ≡ insert_number c numbers
 inserted limit words numbers c shown all inside =
     let word : ℕ = with_bit (get_or words (c / 64) 0) c in
-    same_numbers (numbers_below limit (set words (c / 64) word)) (place_number c numbers)
+    same_numbers (numbers_below limit (set words (c / 64) word)) (insert_number c numbers)
     (AscendingNumbers-below limit (set words (c / 64) word))
     (AscendingNumbers-placed c numbers (subst AscendingNumbers shown (AscendingNumbers-below limit words)))
     (λ n.

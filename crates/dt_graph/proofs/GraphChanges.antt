@@ -1,7 +1,7 @@
 -- A change of one row changes the graph that the rows stand for as the change of a graph says.
 use Rattle.std.proofs.Common.{◌≡◌, ◌==◌, ℕ, ◌<◌, true, false, not, List, [], length, get_or, set, filter, None, refl, sym, ap, subst, ◌∙◌, arith, length-set}
-use Rattle.dt_graph.specs.Graph.{Graph, place_number}
-use Rattle.dt_graph.specs.GraphRows.{graph_of, place_numbers, LawfulRows}
+use Rattle.dt_graph.specs.Graph.{Graph, insert_number}
+use Rattle.dt_graph.specs.GraphRows.{graph_of, insert_numbers, LawfulRows}
 use Rattle.dt_graph.specs.Lawful.{LawfulGraph}
 use Rattle.dt_graph.specs.GraphChange.{add_cause, add_effect, drop_cause, drop_effect, link_cause, link_effect, unlink_effect}
 use Rattle.dt_graph.specs.declared.limits.TheConstants.{CLASSES}
@@ -35,7 +35,7 @@ changed rows n row graph old shown lawful = record {
 
 -- ---- a class is added
 
-pub inserted : (graph : Graph) (rows : List Row) (n class : ℕ) (parents : List ℕ) (row : Row) → IsRowOf graph rows n class → LawfulRows rows → add_cause graph class parents ≡ None → row.is_live ≡ true → row.parents.items ≡ place_numbers parents [] → graph_of (set rows n row) ≡ add_effect graph class parents
+pub inserted : (graph : Graph) (rows : List Row) (n class : ℕ) (parents : List ℕ) (row : Row) → IsRowOf graph rows n class → LawfulRows rows → add_cause graph class parents ≡ None → row.is_live ≡ true → row.parents.items ≡ insert_numbers parents [] → graph_of (set rows n row) ≡ add_effect graph class parents
 inserted graph rows n class parents row at old none live filled =
     let none' : add_cause (graph_of rows) class parents ≡ None = ap (λ g. add_cause g class parents) at.shown ∙ none in
     let not_live = (may_be_added (graph_of rows) class parents none').new in
@@ -43,7 +43,7 @@ inserted graph rows n class parents row at old none live filled =
     rw (live_from-placed rows 0 n class row (omega arith) at.inside live, links_from-filled rows n parents row row at.inside no_links filled, at.same) refl
     ∙ ap (λ g. add_effect g class parents) at.shown
 
-pub inserted_lawful : (graph : Graph) (rows : List Row) (n class : ℕ) (parents : List ℕ) (row : Row) → IsRowOf graph rows n class → LawfulRows rows → add_cause graph class parents ≡ None → row.is_live ≡ true → row.parents.items ≡ place_numbers parents [] → LawfulRows (set rows n row)
+pub inserted_lawful : (graph : Graph) (rows : List Row) (n class : ℕ) (parents : List ℕ) (row : Row) → IsRowOf graph rows n class → LawfulRows rows → add_cause graph class parents ≡ None → row.is_live ≡ true → row.parents.items ≡ insert_numbers parents [] → LawfulRows (set rows n row)
 inserted_lawful graph rows n class parents row at old none live filled =
     changed rows n row (add_effect graph class parents) old
     (inserted graph rows n class parents row at old none live filled)
@@ -64,12 +64,12 @@ dropped_lawful graph rows n class row at old allowed not_live none =
 
 -- ---- a link is made
 
-pub linked : (graph : Graph) (rows : List Row) (n class parent : ℕ) (row d : Row) → IsRowOf graph rows n class → row.is_live ≡ (get_or rows n d).is_live → row.parents.items ≡ place_number parent (get_or rows n d).parents.items → graph_of (set rows n row) ≡ link_effect graph class parent
+pub linked : (graph : Graph) (rows : List Row) (n class parent : ℕ) (row d : Row) → IsRowOf graph rows n class → row.is_live ≡ (get_or rows n d).is_live → row.parents.items ≡ insert_number parent (get_or rows n d).parents.items → graph_of (set rows n row) ≡ link_effect graph class parent
 linked graph rows n class parent row d at same placed =
     rw (live_from-same rows 0 n row d same at.inside, links_from-placed rows 0 n class parent row d (omega arith) at.inside placed) refl
     ∙ ap (λ g. link_effect g class parent) at.shown
 
-pub linked_lawful : (graph : Graph) (rows : List Row) (n class parent : ℕ) (row d : Row) → IsRowOf graph rows n class → LawfulRows rows → link_cause graph class parent ≡ None → row.is_live ≡ (get_or rows n d).is_live → row.parents.items ≡ place_number parent (get_or rows n d).parents.items → LawfulRows (set rows n row)
+pub linked_lawful : (graph : Graph) (rows : List Row) (n class parent : ℕ) (row d : Row) → IsRowOf graph rows n class → LawfulRows rows → link_cause graph class parent ≡ None → row.is_live ≡ (get_or rows n d).is_live → row.parents.items ≡ insert_number parent (get_or rows n d).parents.items → LawfulRows (set rows n row)
 linked_lawful graph rows n class parent row d at old allowed same placed =
     changed rows n row (link_effect graph class parent) old
     (linked graph rows n class parent row d at same placed)

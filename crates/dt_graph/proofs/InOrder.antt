@@ -5,7 +5,7 @@ use Rattle.std.proofs.Common.{arith}
 use Rattle.std.proofs.lemmas.Bool.{cond_both, false≢true}
 use Rattle.std.proofs.lemmas.List.Elements.{All-nil, All-cons, All-head, All-tail, All-weaker, All-filter}
 use Rattle.std.proofs.lemmas.List.Sums.{sum_by-cons}
-use Rattle.dt_graph.specs.InOrder.{StrictOrder, Ascends, place, find_at, without}
+use Rattle.dt_graph.specs.InOrder.{StrictOrder, Ascends, insert_by_key, find_at, without}
 
 -- an element is found exactly where one passes the test
 pub is_some-find : {X : Type 0} (test : X → Bool) (xs : List X) → is_some (find test xs) ≡ list_any test xs
@@ -46,27 +46,27 @@ module _ {X K : Type 0} (key : X → K) (before same : K → K → Bool) (order 
   pub placed : (P : List X → Type 0) (new x : X) (xs : List X)
       → (IsTrue (before (key new) (key x)) → P (new ∷ x ∷ xs))
       → (before (key new) (key x) ≡ false → IsTrue (same (key new) (key x)) → P (new ∷ xs))
-      → (before (key new) (key x) ≡ false → same (key new) (key x) ≡ false → P (x ∷ place key before same new xs))
-      → P (place key before same new (x ∷ xs))
+      → (before (key new) (key x) ≡ false → same (key new) (key x) ≡ false → P (x ∷ insert_by_key key before same new xs))
+      → P (insert_by_key key before same new (x ∷ xs))
   placed P new x xs first here later =
-      cond_both (before (key new) (key x)) (new ∷ x ∷ xs) (cond (same (key new) (key x)) (new ∷ xs) (x ∷ place key before same new xs)) P
-      first (λ b. cond_both (same (key new) (key x)) (new ∷ xs) (x ∷ place key before same new xs) P (here b) (later b))
+      cond_both (before (key new) (key x)) (new ∷ x ∷ xs) (cond (same (key new) (key x)) (new ∷ xs) (x ∷ insert_by_key key before same new xs)) P
+      first (λ b. cond_both (same (key new) (key x)) (new ∷ xs) (x ∷ insert_by_key key before same new xs) P (here b) (later b))
 
-  pub All-place : (P : X → Type 0) (new : X) (xs : List X) → P new → All P xs → All P (place key before same new xs)
-  All-place P new [] one all = All-cons P new [] one all
-  All-place P new (x ∷ xs) one all = placed (All P) new x xs
+  pub All-insert : (P : X → Type 0) (new : X) (xs : List X) → P new → All P xs → All P (insert_by_key key before same new xs)
+  All-insert P new [] one all = All-cons P new [] one all
+  All-insert P new (x ∷ xs) one all = placed (All P) new x xs
       (λ _. All-cons P new (x ∷ xs) one all)
       (λ _ _. All-cons P new xs one (All-tail P x xs all))
-      (λ _ _. All-cons P x (place key before same new xs) (All-head P x xs all) (All-place P new xs one (All-tail P x xs all)))
+      (λ _ _. All-cons P x (insert_by_key key before same new xs) (All-head P x xs all) (All-insert P new xs one (All-tail P x xs all)))
 
-  pub Ascends-place : (new : X) (xs : List X) → Ascends key before xs → Ascends key before (place key before same new xs)
-  Ascends-place new [] u = tt
-  Ascends-place new (x ∷ xs) u = placed (Ascends key before) new x xs
+  pub Ascends-insert : (new : X) (xs : List X) → Ascends key before xs → Ascends key before (insert_by_key key before same new xs)
+  Ascends-insert new [] u = tt
+  Ascends-insert new (x ∷ xs) u = placed (Ascends key before) new x xs
       (λ b. (b, u))
       (λ _ s. Ascends-cons new xs (subst (λ k. BeforeAll k xs) (sym (order.equal (key new) (key x) s)) (first_before_all x xs u)) (Ascends-tail x xs u))
-      (λ b s. Ascends-cons x (place key before same new xs)
-      (All-place (λ y. IsTrue (before (key x) (key y))) new xs (order.total (key new) (key x) b s) (first_before_all x xs u))
-      (Ascends-place new xs (Ascends-tail x xs u)))
+      (λ b s. Ascends-cons x (insert_by_key key before same new xs)
+      (All-insert (λ y. IsTrue (before (key x) (key y))) new xs (order.total (key new) (key x) b s) (first_before_all x xs u))
+      (Ascends-insert new xs (Ascends-tail x xs u)))
 
   -- ---- what stands before all is not among them
 
@@ -112,17 +112,17 @@ module _ {X K : Type 0} (key : X → K) (before same : K → K → Bool) (order 
   without_none k [] h = refl
   without_none k (x ∷ xs) h = let r = without_none k xs in grind arith
 
-  pub place_first : (d : X) (xs : List X) → BeforeAll (key d) xs → place key before same d xs ≡ d ∷ xs
-  place_first d [] all = refl
-  place_first d (x ∷ xs) all = rw (All-head (λ y. IsTrue (before (key d) (key y))) x xs all) refl
+  pub inserted_first : (d : X) (xs : List X) → BeforeAll (key d) xs → insert_by_key key before same d xs ≡ d ∷ xs
+  inserted_first d [] all = refl
+  inserted_first d (x ∷ xs) all = rw (All-head (λ y. IsTrue (before (key d) (key y))) x xs all) refl
 
   -- ---- undoing
 
   -- what is placed goes again
-  pub remove_placed : (d : X) (xs : List X) → find_at key same (key d) xs ≡ None → without key same (key d) (place key before same d xs) ≡ xs
-  remove_placed d [] h = rw (order.reflexive (key d)) refl
-  remove_placed d (x ∷ xs) h =
-      let r = remove_placed d xs in
+  pub remove_inserted : (d : X) (xs : List X) → find_at key same (key d) xs ≡ None → without key same (key d) (insert_by_key key before same d xs) ≡ xs
+  remove_inserted d [] h = rw (order.reflexive (key d)) refl
+  remove_inserted d (x ∷ xs) h =
+      let r = remove_inserted d xs in
       let stays = without_none (key d) xs in
       let own = order.reflexive (key d) in grind arith
 
@@ -132,16 +132,16 @@ module _ {X K : Type 0} (key : X → K) (before same : K → K → Bool) (order 
   found_key k (x ∷ xs) old h = let r = found_key k xs old in let e = order.equal k (key x) in grind arith
 
   -- an element goes back behind one that stands before it
-  place_behind : (old x : X) (k : K) (xs : List X) → key old ≡ k → before k (key x) ≡ false → same k (key x) ≡ false
-      → place key before same old (x ∷ xs) ≡ x ∷ place key before same old xs
-  place_behind old x k xs e b s =
+  inserted_behind : (old x : X) (k : K) (xs : List X) → key old ≡ k → before k (key x) ≡ false → same k (key x) ≡ false
+      → insert_by_key key before same old (x ∷ xs) ≡ x ∷ insert_by_key key before same old xs
+  inserted_behind old x k xs e b s =
       let b' = subst (λ q. before q (key x) ≡ false) (sym e) b in
       let s' = subst (λ q. same q (key x) ≡ false) (sym e) s in
       rw (b', s') refl
 
   -- and in place of one with its key
-  place_over : (old d : X) (xs : List X) → key old ≡ key d → place key before same old (d ∷ xs) ≡ old ∷ xs
-  place_over old d xs e =
+  inserted_over : (old d : X) (xs : List X) → key old ≡ key d → insert_by_key key before same old (d ∷ xs) ≡ old ∷ xs
+  inserted_over old d xs e =
       let b = subst (λ q. before q (key d) ≡ false) (sym e) (order.irreflexive (key d)) in
       let s = subst (λ q. same q (key d) ≡ true) (sym e) (order.reflexive (key d)) in
       rw (b, s) refl
@@ -151,41 +151,41 @@ module _ {X K : Type 0} (key : X → K) (before same : K → K → Bool) (order 
   not_before k x xs old u h b = let none = absent_before k x xs u b in absurd cc
 
   pub put_back_replaced : (d old : X) (xs : List X) → Ascends key before xs → find_at key same (key d) xs ≡ Some old
-      → place key before same old (place key before same d xs) ≡ xs
+      → insert_by_key key before same old (insert_by_key key before same d xs) ≡ xs
   put_back_replaced d old [] u h = absurd cc
   put_back_replaced d old (x ∷ xs) u h =
       let k = found_key (key d) (x ∷ xs) old h in
-      elim (same (key d) (key x)) as (λ t. same (key d) (key x) ≡ t → place key before same old (place key before same d (x ∷ xs)) ≡ x ∷ xs) [
+      elim (same (key d) (key x)) as (λ t. same (key d) (key x) ≡ t → insert_by_key key before same old (insert_by_key key before same d (x ∷ xs)) ≡ x ∷ xs) [
         | true ↦ λ s.
             let one : x ≡ old = (let e = rw s at h in cc) in
-            placed (λ ys. place key before same old ys ≡ x ∷ xs) d x xs
+            placed (λ ys. insert_by_key key before same old ys ≡ x ∷ xs) d x xs
             (λ b. absurd (not_before (key d) x xs old u h b))
-            (λ _ _. place_over old d xs k ∙ ap (λ y. y ∷ xs) (sym one))
+            (λ _ _. inserted_over old d xs k ∙ ap (λ y. y ∷ xs) (sym one))
             (λ _ e. absurd (false≢true (sym e ∙ s)))
-        | false ↦ λ s. placed (λ ys. place key before same old ys ≡ x ∷ xs) d x xs
+        | false ↦ λ s. placed (λ ys. insert_by_key key before same old ys ≡ x ∷ xs) d x xs
             (λ b. absurd (not_before (key d) x xs old u h b))
             (λ _ e. absurd (false≢true (sym s ∙ e)))
-            (λ b e. place_behind old x (key d) (place key before same d xs) k b e
+            (λ b e. inserted_behind old x (key d) (insert_by_key key before same d xs) k b e
             ∙ ap (λ ys. x ∷ ys) (put_back_replaced d old xs (Ascends-tail x xs u) (rw s at h)))
       ] refl
 
   pub put_back_removed : (k : K) (old : X) (xs : List X) → Ascends key before xs → find_at key same k xs ≡ Some old
-      → place key before same old (without key same k xs) ≡ xs
+      → insert_by_key key before same old (without key same k xs) ≡ xs
   put_back_removed k old [] u h = absurd cc
   put_back_removed k old (x ∷ xs) u h =
       let e = found_key k (x ∷ xs) old h in
-      elim (same k (key x)) as (λ t. same k (key x) ≡ t → place key before same old (without key same k (x ∷ xs)) ≡ x ∷ xs) [
+      elim (same k (key x)) as (λ t. same k (key x) ≡ t → insert_by_key key before same old (without key same k (x ∷ xs)) ≡ x ∷ xs) [
         | true ↦ λ s.
             let one : x ≡ old = (let e = rw s at h in cc) in
             let all = first_before_all x xs u in
             let stays = without_none k xs (not_again k x xs u s) in
-            rw s (ap (place key before same old) stays ∙ subst (λ y. place key before same y xs ≡ x ∷ xs) one (place_first x xs all))
+            rw s (ap (insert_by_key key before same old) stays ∙ subst (λ y. insert_by_key key before same y xs ≡ x ∷ xs) one (inserted_first x xs all))
         | false ↦ λ s.
             let b : before k (key x) ≡ false = elim (before k (key x)) as (λ t. before k (key x) ≡ t → t ≡ false) [
               | true ↦ λ b. absurd (not_before k x xs old u h b)
               | false ↦ λ b. refl
             ] refl in
-            rw s (place_behind old x k (without key same k xs) e b s
+            rw s (inserted_behind old x k (without key same k xs) e b s
             ∙ ap (λ ys. x ∷ ys) (put_back_removed k old xs (Ascends-tail x xs u) (rw s at h)))
       ] refl
 
@@ -196,13 +196,13 @@ module _ {X K : Type 0} (key : X → K) (before same : K → K → Bool) (order 
   IsFirst k [] = Unit {0}
   IsFirst k (x ∷ xs) = IsTrue (before k (key x))
 
-  place_front : (d : X) (xs : List X) → IsFirst (key d) xs → place key before same d xs ≡ d ∷ xs
-  place_front d [] h = refl
-  place_front d (x ∷ xs) h = rw h refl
+  inserted_in_front : (d : X) (xs : List X) → IsFirst (key d) xs → insert_by_key key before same d xs ≡ d ∷ xs
+  inserted_in_front d [] h = refl
+  inserted_in_front d (x ∷ xs) h = rw h refl
 
   -- behind one that stands before it
-  place_after : (d x : X) (xs : List X) → IsTrue (before (key x) (key d)) → place key before same d (x ∷ xs) ≡ x ∷ place key before same d xs
-  place_after d x xs b = place_behind d x (key d) xs refl late other
+  inserted_after : (d x : X) (xs : List X) → IsTrue (before (key x) (key d)) → insert_by_key key before same d (x ∷ xs) ≡ x ∷ insert_by_key key before same d xs
+  inserted_after d x xs b = inserted_behind d x (key d) xs refl late other
     where
       back : (a : K) → before a a ≡ true → ⊥
       back a h = false≢true (sym (order.irreflexive a) ∙ h)
@@ -219,31 +219,31 @@ module _ {X K : Type 0} (key : X → K) (before same : K → K → Bool) (order 
         | false ↦ λ _. refl
       ] refl
 
-  first_placed : (d e : X) (xs : List X) → IsTrue (before (key d) (key e)) → IsFirst (key d) xs → IsFirst (key d) (place key before same e xs)
+  first_placed : (d e : X) (xs : List X) → IsTrue (before (key d) (key e)) → IsFirst (key d) xs → IsFirst (key d) (insert_by_key key before same e xs)
   first_placed d e [] b h = b
   first_placed d e (x ∷ xs) b h = placed (IsFirst (key d)) e x xs (λ _. b) (λ _ _. b) (λ _ _. h)
 
-  place-swap : (d e : X) (xs : List X) → IsTrue (before (key d) (key e))
-      → place key before same d (place key before same e xs) ≡ place key before same e (place key before same d xs)
-  place-swap d e [] b = place_front d (e ∷ []) b ∙ sym (place_after e d [] b)
-  place-swap d e (x ∷ xs) b =
-      placed (λ ys. place key before same d (place key before same e (x ∷ xs)) ≡ place key before same e ys) d x xs
-      (λ first. place_front d (place key before same e (x ∷ xs)) (first_placed d e (x ∷ xs) b first) ∙ sym (place_after e d (x ∷ xs) b))
+  inserts-swap : (d e : X) (xs : List X) → IsTrue (before (key d) (key e))
+      → insert_by_key key before same d (insert_by_key key before same e xs) ≡ insert_by_key key before same e (insert_by_key key before same d xs)
+  inserts-swap d e [] b = inserted_in_front d (e ∷ []) b ∙ sym (inserted_after e d [] b)
+  inserts-swap d e (x ∷ xs) b =
+      placed (λ ys. insert_by_key key before same d (insert_by_key key before same e (x ∷ xs)) ≡ insert_by_key key before same e ys) d x xs
+      (λ first. inserted_in_front d (insert_by_key key before same e (x ∷ xs)) (first_placed d e (x ∷ xs) b first) ∙ sym (inserted_after e d (x ∷ xs) b))
       (λ _ s.
       let q = order.equal (key d) (key x) s in
-      ap (place key before same d) (place_after e x xs (subst (λ k. IsTrue (before k (key e))) q b))
-      ∙ place_over d x (place key before same e xs) q ∙ sym (place_after e d xs b))
+      ap (insert_by_key key before same d) (inserted_after e x xs (subst (λ k. IsTrue (before k (key e))) q b))
+      ∙ inserted_over d x (insert_by_key key before same e xs) q ∙ sym (inserted_after e d xs b))
       (λ late other.
       let before_d = order.total (key d) (key x) late other in
       let behind = order.transitive (key x) (key d) (key e) before_d b in
-      ap (place key before same d) (place_after e x xs behind) ∙ place_after d x (place key before same e xs) before_d
-      ∙ ap (λ ys. x ∷ ys) (place-swap d e xs b) ∙ sym (place_after e x (place key before same d xs) behind))
+      ap (insert_by_key key before same d) (inserted_after e x xs behind) ∙ inserted_after d x (insert_by_key key before same e xs) before_d
+      ∙ ap (λ ys. x ∷ ys) (inserts-swap d e xs b) ∙ sym (inserted_after e x (insert_by_key key before same d xs) behind))
 
-  pub places-commute : (d e : X) (xs : List X) → same (key d) (key e) ≡ false
-      → place key before same d (place key before same e xs) ≡ place key before same e (place key before same d xs)
-  places-commute d e xs differ =
+  pub inserts-commute : (d e : X) (xs : List X) → same (key d) (key e) ≡ false
+      → insert_by_key key before same d (insert_by_key key before same e xs) ≡ insert_by_key key before same e (insert_by_key key before same d xs)
+  inserts-commute d e xs differ =
       elim (before (key d) (key e)) as (λ t. before (key d) (key e) ≡ t
-      → place key before same d (place key before same e xs) ≡ place key before same e (place key before same d xs)) [
-        | true ↦ λ b. place-swap d e xs b
-        | false ↦ λ late. sym (place-swap e d xs (order.total (key d) (key e) late differ))
+      → insert_by_key key before same d (insert_by_key key before same e xs) ≡ insert_by_key key before same e (insert_by_key key before same d xs)) [
+        | true ↦ λ b. inserts-swap d e xs b
+        | false ↦ λ late. sym (inserts-swap e d xs (order.total (key d) (key e) late differ))
       ] refl

@@ -2,7 +2,7 @@
 use Rattle.std.proofs.Common.{◌≡◌, ◌==◌, ◌≢◌, ℕ, ◌≤◌, ◌<◌, Bool, false, cond, not, ◌&&◌, IsTrue, List, [], ◌∷◌, length, filter, find, refl, sym, ap, subst, ◌∙◌, ◌⊎◌, ⊎_elim, eqb-true, eq-eqb, ltb-false, leb-false, nat_lt, nat_le, arith, replicate, None, Some}
 use Rattle.std.proofs.lemmas.Bool.{or_cases, or_left, or_right, and_parts, false≢true, not-false, false_from_ne_true, cases_Bool, not_from_false}
 use Rattle.std.proofs.lemmas.List.Elements.{All-nil}
-use Rattle.dt_graph.specs.Graph.{Link, Graph, empty_graph, has_number, is_live, is_link, has_link, parent_count, place_number, place_link, place_links, AscendingLinks}
+use Rattle.dt_graph.specs.Graph.{Link, Graph, empty_graph, has_number, is_live, is_link, has_link, parent_count, insert_number, insert_link, insert_links, AscendingLinks}
 use Rattle.dt_graph.specs.Below.{Leads, HasNoCycle, is_below}
 use Rattle.dt_graph.specs.Lawful.{LawfulGraph}
 use Rattle.dt_graph.specs.GraphRows.{graph_of, LawfulRows}
@@ -78,10 +78,10 @@ no_parent_count g class joins not_live = parent_count_listed g.links class ∙ a
 
 -- ---- a class is added
 
-AscendingLinks-each_placed : (class : ℕ) (parents : List ℕ) (links : List Link) → AscendingLinks links → AscendingLinks (place_links class parents links)
+AscendingLinks-each_placed : (class : ℕ) (parents : List ℕ) (links : List Link) → AscendingLinks links → AscendingLinks (insert_links class parents links)
 AscendingLinks-each_placed class [] links ascending = ascending
 AscendingLinks-each_placed class (p ∷ parents) links ascending =
-    AscendingLinks-each_placed class parents (place_link (record { class = class; parent = p }) links) (AscendingLinks-placed (record { class = class; parent = p }) links ascending)
+    AscendingLinks-each_placed class parents (insert_link (record { class = class; parent = p }) links) (AscendingLinks-placed (record { class = class; parent = p }) links ascending)
 
 -- what is known of a class and its parents where it isn't refused
 pub record MayBeAdded (g : Graph) (class : ℕ) (parents : List ℕ) : Type 0 where
@@ -113,7 +113,7 @@ apart_from class links more no_way_in old (s ∷ steps) a b apart leads = (
 pub add_keeps : (g : Graph) (class : ℕ) (parents : List ℕ) → LawfulGraph g → class < CLASSES → add_cause g class parents ≡ None → LawfulGraph (add_effect g class parents)
 add_keeps g class parents lawful in_range none = record {
   classes_ascend = AscendingNumbers-placed class g.classes lawful.classes_ascend;
-  classes_in_range = all_numbers (λ c. c < CLASSES) (place_number class g.classes) (λ n listed. ⊎_elim
+  classes_in_range = all_numbers (λ c. c < CLASSES) (insert_number class g.classes) (λ n listed. ⊎_elim
       (λ here. (let P : ℕ → Type 0 = λ m. m < CLASSES in subst P (eqb-true class n here) in_range))
       (λ old. each_number (λ c. c < CLASSES) g.classes lawful.classes_in_range n old)
       (or_cases (class == n) (has_number g.classes n) (sym (has_number-placed class g.classes n) ∙ listed)));

@@ -3,7 +3,7 @@ use Rattle.std.proofs.Common.{◌≡◌, ◌==◌, ℕ, ◌+◌, ◌≤◌, Bool
 use Rattle.std.proofs.lemmas.Bool.{or_cases, or_left, or_right, and_parts, and_from, false≢true, cond_both}
 use Rattle.std.proofs.lemmas.Bool.Decides.{nat_tests}
 use Rattle.std.proofs.lemmas.List.Elements.{All-nil, All-cons, All-head, All-tail}
-use Rattle.dt_graph.specs.Graph.{Link, has_number, is_link, has_link, is_link_before, parent_count, place_number, place_link, place_links}
+use Rattle.dt_graph.specs.Graph.{Link, has_number, is_link, has_link, is_link_before, parent_count, insert_number, insert_link, insert_links}
 use Rattle.dt_graph.proofs.ParentLists.{parent_count-cons}
 
 -- ---- what holds of each number or link of a list
@@ -39,23 +39,23 @@ all_links P (link ∷ links) each = All-cons (λ l. P l.class l.parent) link lin
 
 -- ---- after one more is placed
 
-pub has_number-placed : (new : ℕ) (numbers : List ℕ) (n : ℕ) → has_number (place_number new numbers) n ≡ ((new == n) || has_number numbers n)
+pub has_number-placed : (new : ℕ) (numbers : List ℕ) (n : ℕ) → has_number (insert_number new numbers) n ≡ ((new == n) || has_number numbers n)
 has_number-placed new [] n = refl
 has_number-placed new (x ∷ numbers) n = let h = has_number-placed new numbers n in grind (arith, nat_tests)
 
-pub has_link-placed : (link : Link) (links : List Link) (a b : ℕ) → has_link (place_link link links) a b ≡ has_link (link ∷ links) a b
+pub has_link-placed : (link : Link) (links : List Link) (a b : ℕ) → has_link (insert_link link links) a b ≡ has_link (link ∷ links) a b
 has_link-placed link [] a b = refl
 has_link-placed link (l ∷ links) a b = let h = has_link-placed link links a b in grind (arith, nat_tests)
 
-pub has_link-all_placed : (class : ℕ) (parents : List ℕ) (links : List Link) (a b : ℕ) → has_link (place_links class parents links) a b ≡ (((class == a) && has_number parents b) || has_link links a b)
+pub has_link-all_placed : (class : ℕ) (parents : List ℕ) (links : List Link) (a b : ℕ) → has_link (insert_links class parents links) a b ≡ (((class == a) && has_number parents b) || has_link links a b)
 has_link-all_placed class [] links a b = grind arith
 has_link-all_placed class (p ∷ parents) links a b =
     let link : Link = record { class = class; parent = p } in
-    let rest = has_link-all_placed class parents (place_link link links) a b in
+    let rest = has_link-all_placed class parents (insert_link link links) a b in
     let one = has_link-placed link links a b in grind arith
 
 -- a link after links to these parents were placed is one of them, or was there
-pub has_link-each_placed : (class : ℕ) (parents : List ℕ) (links : List Link) (a b : ℕ) → IsTrue (has_link (place_links class parents links) a b) → ((class ≡ a) × IsTrue (has_number parents b)) ⊎ IsTrue (has_link links a b)
+pub has_link-each_placed : (class : ℕ) (parents : List ℕ) (links : List Link) (a b : ℕ) → IsTrue (has_link (insert_links class parents links) a b) → ((class ≡ a) × IsTrue (has_number parents b)) ⊎ IsTrue (has_link links a b)
 has_link-each_placed class parents links a b listed = ⊎_elim
     (λ own. let ends = and_parts (class == a) (has_number parents b) own in inl (eqb-true class a ends.0, ends.1))
     (λ old. inr old)
@@ -94,23 +94,23 @@ has_link-filter test links a b kept =
 
 -- ---- how many parents a class has then
 
-pub parent_count-placed : (link : Link) (links : List Link) (class : ℕ) → parent_count (place_link link links) class ≤ cond (link.class == class) 1 0 + parent_count links class
+pub parent_count-placed : (link : Link) (links : List Link) (class : ℕ) → parent_count (insert_link link links) class ≤ cond (link.class == class) 1 0 + parent_count links class
 parent_count-placed link [] class = omega (arith, parent_count-cons link [] class)
-parent_count-placed link (l ∷ links) class = cond_both (is_link_before link l) (link ∷ l ∷ links) (cond (is_link link.class link.parent l) (link ∷ links) (l ∷ place_link link links))
+parent_count-placed link (l ∷ links) class = cond_both (is_link_before link l) (link ∷ l ∷ links) (cond (is_link link.class link.parent l) (link ∷ links) (l ∷ insert_link link links))
     (λ ls. parent_count ls class ≤ cond (link.class == class) 1 0 + parent_count (l ∷ links) class)
     (λ before. omega (arith, parent_count-cons link (l ∷ links) class))
-    (λ after. cond_both (is_link link.class link.parent l) (link ∷ links) (l ∷ place_link link links)
+    (λ after. cond_both (is_link link.class link.parent l) (link ∷ links) (l ∷ insert_link link links)
     (λ ls. parent_count ls class ≤ cond (link.class == class) 1 0 + parent_count (l ∷ links) class)
     (λ same. omega (arith, parent_count-cons link links class, parent_count-cons l links class))
-    (λ other. omega (arith, parent_count-cons l (place_link link links) class, parent_count-cons l links class, parent_count-placed link links class)))
+    (λ other. omega (arith, parent_count-cons l (insert_link link links) class, parent_count-cons l links class, parent_count-placed link links class)))
 
-pub parent_count-each_placed : (class : ℕ) (parents : List ℕ) (links : List Link) (c : ℕ) → parent_count (place_links class parents links) c ≤ cond (class == c) (length parents) 0 + parent_count links c
+pub parent_count-each_placed : (class : ℕ) (parents : List ℕ) (links : List Link) (c : ℕ) → parent_count (insert_links class parents links) c ≤ cond (class == c) (length parents) 0 + parent_count links c
 parent_count-each_placed class [] links c = omega arith
 parent_count-each_placed class (p ∷ parents) links c =
     let link : Link = record { class = class; parent = p } in
-    let more = parent_count-each_placed class parents (place_link link links) c in
+    let more = parent_count-each_placed class parents (insert_link link links) c in
     let one = parent_count-placed link links c in
-    let Bound : Bool → Type 0 = λ b. (parent_count (place_links class parents (place_link link links)) c ≤ cond b (length parents) 0 + parent_count (place_link link links) c) → (parent_count (place_link link links) c ≤ cond b 1 0 + parent_count links c) → parent_count (place_links class parents (place_link link links)) c ≤ cond b (length (p ∷ parents)) 0 + parent_count links c in
+    let Bound : Bool → Type 0 = λ b. (parent_count (insert_links class parents (insert_link link links)) c ≤ cond b (length parents) 0 + parent_count (insert_link link links) c) → (parent_count (insert_link link links) c ≤ cond b 1 0 + parent_count links c) → parent_count (insert_links class parents (insert_link link links)) c ≤ cond b (length (p ∷ parents)) 0 + parent_count links c in
     elim (class == c) as Bound [ true ↦ λ m o. omega arith | false ↦ λ m o. omega arith ] more one
 
 pub parent_count-filter : (test : Link → Bool) (links : List Link) (class : ℕ) → parent_count (filter test links) class ≤ parent_count links class
@@ -121,6 +121,6 @@ parent_count-filter test (l ∷ links) class = cond_both (test l) (l ∷ filter 
     (λ fails. omega (arith, parent_count-cons l links class, parent_count-filter test links class))
 
 -- one is placed, so there is one more at most
-pub length-placed : (new : ℕ) (numbers : List ℕ) → length (place_number new numbers) ≤ length numbers + 1
+pub length-placed : (new : ℕ) (numbers : List ℕ) → length (insert_number new numbers) ≤ length numbers + 1
 length-placed new [] = omega arith
 length-placed new (n ∷ numbers) = let h = length-placed new numbers in grind (arith, nat_tests)

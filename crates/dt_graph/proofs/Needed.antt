@@ -1,7 +1,7 @@
 -- A change is refused for no other reason than those for which it must be: it is void, or it leaves no lawful graph.
 use Rattle.std.proofs.Common.{◌≡◌, ◌==◌, ℕ, suc, ◌<◌, ◌≤◌, Bool, false, cond, not, ◌&&◌, IsTrue, ◌↔◌, List, [], ◌∷◌, length, Option, None, Some, find, refl, sym, ap, subst, ◌∙◌, ⊎_elim, eqb-true, eq-eqb, nat_lt, nat_le, arith}
 use Rattle.std.proofs.lemmas.Bool.{or_cases, or_left, or_right, or_parts, and_from, false≢true, false_from_ne_true, not-false, cond_both, le-ltb, lt-leb}
-use Rattle.dt_graph.specs.Graph.{Link, Graph, has_number, is_live, is_link, has_link, is_link_before, parent_count, place_link}
+use Rattle.dt_graph.specs.Graph.{Link, Graph, has_number, is_live, is_link, has_link, is_link_before, parent_count, insert_link}
 use Rattle.dt_graph.specs.Below.{is_below}
 use Rattle.dt_graph.specs.Lawful.{LawfulGraph}
 use Rattle.dt_graph.specs.GraphChange.{add_cause, add_effect, drop_cause, drop_effect, link_cause, link_effect, unlink_cause, lowest_subclass, first_repeated}
@@ -17,7 +17,7 @@ use Rattle.dt_graph.proofs.ListsOfGraphs.{lowest_is_subclass}
 -- ---- a link
 
 -- a link that wasn't there is one parent more
-parent_count-new : (class parent : ℕ) (links : List Link) → has_link links class parent ≡ false → parent_count (place_link (record { class = class; parent = parent }) links) class ≡ suc (parent_count links class)
+parent_count-new : (class parent : ℕ) (links : List Link) → has_link links class parent ≡ false → parent_count (insert_link (record { class = class; parent = parent }) links) class ≡ suc (parent_count links class)
 parent_count-new class parent [] absent =
     let own : ◌≡◌ {A = ℕ} (cond (class == class) 1 0) 1 = rw (eq-eqb class class refl) refl in
     omega (arith, parent_count-cons (record { class = class; parent = parent }) [] class, own)
@@ -25,10 +25,10 @@ parent_count-new class parent (l ∷ links) absent =
     let new : Link = record { class = class; parent = parent } in
     let own : ◌≡◌ {A = ℕ} (cond (class == class) 1 0) 1 = rw (eq-eqb class class refl) refl in
     let parts = or_parts (is_link class parent l) (has_link links class parent) absent in
-    cond_both (is_link_before new l) (new ∷ l ∷ links) (cond (is_link class parent l) (new ∷ links) (l ∷ place_link new links))
+    cond_both (is_link_before new l) (new ∷ l ∷ links) (cond (is_link class parent l) (new ∷ links) (l ∷ insert_link new links))
     (λ ls. parent_count ls class ≡ suc (parent_count (l ∷ links) class))
     (λ before. omega (arith, parent_count-cons new (l ∷ links) class, own))
-    (λ after. rw parts.0 (omega (arith, parent_count-cons l (place_link new links) class, parent_count-cons l links class, parent_count-new class parent links parts.1)))
+    (λ after. rw parts.0 (omega (arith, parent_count-cons l (insert_link new links) class, parent_count-cons l links class, parent_count-new class parent links parts.1)))
 
 link_allowed : (g : Graph) (class parent : ℕ) → has_link g.links class parent ≡ false → LawfulGraph (link_effect g class parent) → link_cause g class parent ≡ None
 link_allowed g class parent absent lawful = rw (live.0, live.1, absent, room, no_way_back) refl

@@ -2,8 +2,8 @@
 use Rattle.std.proofs.Common.{◌≡◌, ◌==◌, ◌≢◌, ℕ, zero, suc, ◌+◌, ◌<◌, true, false, not, List, [], ◌∷◌, ◌++◌, length, get_or, set, filter, refl, sym, ap, ◌∙◌, eq-eqb, ne_eqb, lt-ltb, le-ltb, arith, set-set, length-set, get_or-set_same}
 use Rattle.std.proofs.lemmas.Bool.Decides.{nat_tests}
 use Rattle.std.proofs.lemmas.List.Elements.{filter-append}
-use Rattle.dt_graph.specs.Graph.{Link, is_link, place_number, place_link, place_links}
-use Rattle.dt_graph.specs.GraphRows.{live_from, links_to, links_from, place_numbers}
+use Rattle.dt_graph.specs.Graph.{Link, is_link, insert_number, insert_link, insert_links}
+use Rattle.dt_graph.specs.GraphRows.{live_from, links_to, links_from, insert_numbers}
 use Rattle.dt_graph.specs.declared.class_rows.Row.{Row}
 
 -- ---- the live classes
@@ -14,17 +14,17 @@ live_from-same [] k i row d same inside = refl
 live_from-same (r ∷ rows) k zero row d same inside = rw same refl
 live_from-same (r ∷ rows) k (suc i) row d same inside = rw (live_from-same rows (k + 1) i row d same (omega arith)) refl
 
-place_number-first : (rows : List Row) (k q : ℕ) → q < k → place_number q (live_from k rows) ≡ q ∷ live_from k rows
-place_number-first [] k q before = refl
-place_number-first (r ∷ rows) k q before =
-    let rest = place_number-first rows (k + 1) q (omega arith) in grind (arith, nat_tests)
+insert_number-first : (rows : List Row) (k q : ℕ) → q < k → insert_number q (live_from k rows) ≡ q ∷ live_from k rows
+insert_number-first [] k q before = refl
+insert_number-first (r ∷ rows) k q before =
+    let rest = insert_number-first rows (k + 1) q (omega arith) in grind (arith, nat_tests)
 
 -- a row that becomes live
-pub live_from-placed : (rows : List Row) (k i q : ℕ) (row : Row) → q ≡ k + i → i < length rows → row.is_live ≡ true → live_from k (set rows i row) ≡ place_number q (live_from k rows)
+pub live_from-placed : (rows : List Row) (k i q : ℕ) (row : Row) → q ≡ k + i → i < length rows → row.is_live ≡ true → live_from k (set rows i row) ≡ insert_number q (live_from k rows)
 live_from-placed [] k i q row at inside live = absurd (omega arith)
 live_from-placed (r ∷ rows) k zero q row at inside live =
     let here : q ≡ k = omega arith in
-    let first = place_number-first rows (k + 1) k (omega arith) in grind (arith, nat_tests)
+    let first = insert_number-first rows (k + 1) k (omega arith) in grind (arith, nat_tests)
 live_from-placed (r ∷ rows) k (suc i) q row at inside live =
     let rest = live_from-placed rows (k + 1) i q row (omega arith) (omega arith) live in grind (arith, nat_tests)
 
@@ -50,55 +50,55 @@ links_from-same (r ∷ rows) k zero row d same inside = rw same refl
 links_from-same (r ∷ rows) k (suc i) row d same inside = rw (links_from-same rows (k + 1) i row d same (omega arith)) refl
 
 -- a link of a class before these links' class stands first, where it stands first among the rest
-before_links_to : (k q p : ℕ) (ps : List ℕ) (links : List Link) → q < k → place_link (record { class = q; parent = p }) links ≡ record { class = q; parent = p } ∷ links → place_link (record { class = q; parent = p }) (links_to k ps ++ links) ≡ record { class = q; parent = p } ∷ links_to k ps ++ links
+before_links_to : (k q p : ℕ) (ps : List ℕ) (links : List Link) → q < k → insert_link (record { class = q; parent = p }) links ≡ record { class = q; parent = p } ∷ links → insert_link (record { class = q; parent = p }) (links_to k ps ++ links) ≡ record { class = q; parent = p } ∷ links_to k ps ++ links
 before_links_to k q p [] links before rest = rest
 before_links_to k q p (x ∷ ps) links before rest = rw (lt-ltb q k before) refl
 
 -- a link of a class before the rows stands first
-place_link-first : (rows : List Row) (k q p : ℕ) → q < k → place_link (record { class = q; parent = p }) (links_from k rows) ≡ record { class = q; parent = p } ∷ links_from k rows
-place_link-first [] k q p before = refl
-place_link-first (r ∷ rows) k q p before =
-    before_links_to k q p r.parents.items (links_from (k + 1) rows) before (place_link-first rows (k + 1) q p (omega arith))
+insert_link-first : (rows : List Row) (k q p : ℕ) → q < k → insert_link (record { class = q; parent = p }) (links_from k rows) ≡ record { class = q; parent = p } ∷ links_from k rows
+insert_link-first [] k q p before = refl
+insert_link-first (r ∷ rows) k q p before =
+    before_links_to k q p r.parents.items (links_from (k + 1) rows) before (insert_link-first rows (k + 1) q p (omega arith))
 
 -- a link of the class itself is placed among its own
-place_link-own : (rows : List Row) (k p : ℕ) (ps : List ℕ) → place_link (record { class = k; parent = p }) (links_to k ps ++ links_from (k + 1) rows) ≡ links_to k (place_number p ps) ++ links_from (k + 1) rows
-place_link-own rows k p [] = place_link-first rows (k + 1) k p (omega arith)
-place_link-own rows k p (x ∷ ps) = let rest = place_link-own rows k p ps in grind (arith, nat_tests)
+insert_link-own : (rows : List Row) (k p : ℕ) (ps : List ℕ) → insert_link (record { class = k; parent = p }) (links_to k ps ++ links_from (k + 1) rows) ≡ links_to k (insert_number p ps) ++ links_from (k + 1) rows
+insert_link-own rows k p [] = insert_link-first rows (k + 1) k p (omega arith)
+insert_link-own rows k p (x ∷ ps) = let rest = insert_link-own rows k p ps in grind (arith, nat_tests)
 
 -- a link of a later class is placed after these
-place_link-later : (k q p : ℕ) (ps : List ℕ) (links : List Link) → k < q → place_link (record { class = q; parent = p }) (links_to k ps ++ links) ≡ links_to k ps ++ place_link (record { class = q; parent = p }) links
-place_link-later k q p [] links after = refl
-place_link-later k q p (x ∷ ps) links after =
-    rw (le-ltb q k (omega arith), ne_eqb q k (omega arith), ne_eqb k q (omega arith)) (ap (λ ls. record { class = k; parent = x } ∷ ls) (place_link-later k q p ps links after))
+insert_link-later : (k q p : ℕ) (ps : List ℕ) (links : List Link) → k < q → insert_link (record { class = q; parent = p }) (links_to k ps ++ links) ≡ links_to k ps ++ insert_link (record { class = q; parent = p }) links
+insert_link-later k q p [] links after = refl
+insert_link-later k q p (x ∷ ps) links after =
+    rw (le-ltb q k (omega arith), ne_eqb q k (omega arith), ne_eqb k q (omega arith)) (ap (λ ls. record { class = k; parent = x } ∷ ls) (insert_link-later k q p ps links after))
 
 -- a row with one parent more
-pub links_from-placed : (rows : List Row) (k i q p : ℕ) (row d : Row) → q ≡ k + i → i < length rows → row.parents.items ≡ place_number p (get_or rows i d).parents.items → links_from k (set rows i row) ≡ place_link (record { class = q; parent = p }) (links_from k rows)
+pub links_from-placed : (rows : List Row) (k i q p : ℕ) (row d : Row) → q ≡ k + i → i < length rows → row.parents.items ≡ insert_number p (get_or rows i d).parents.items → links_from k (set rows i row) ≡ insert_link (record { class = q; parent = p }) (links_from k rows)
 links_from-placed [] k i q p row d at inside parents = absurd (omega arith)
 links_from-placed (r ∷ rows) k zero q p row d at inside parents =
     let here : q ≡ k = omega arith in
-    rw (parents, here) (sym (place_link-own rows k p r.parents.items))
+    rw (parents, here) (sym (insert_link-own rows k p r.parents.items))
 links_from-placed (r ∷ rows) k (suc i) q p row d at inside parents =
-    rw (links_from-placed rows (k + 1) i q p row d (omega arith) (omega arith) parents) (sym (place_link-later k q p r.parents.items (links_from (k + 1) rows) (omega arith)))
+    rw (links_from-placed rows (k + 1) i q p row d (omega arith) (omega arith) parents) (sym (insert_link-later k q p r.parents.items (links_from (k + 1) rows) (omega arith)))
 
 -- a row with these parents
 abbrev pub row_with : List ℕ → Row
 row_with parents = record { is_live = true; parents = record { items = parents } }
 
 -- a row with parents placed one after another
-links_from-each_placed : (rows : List Row) (i : ℕ) (ps before : List ℕ) → i < length rows → links_from 0 (set rows i (row_with (place_numbers ps before))) ≡ place_links i ps (links_from 0 (set rows i (row_with before)))
+links_from-each_placed : (rows : List Row) (i : ℕ) (ps before : List ℕ) → i < length rows → links_from 0 (set rows i (row_with (insert_numbers ps before))) ≡ insert_links i ps (links_from 0 (set rows i (row_with before)))
 links_from-each_placed rows i [] before inside = refl
 links_from-each_placed rows i (p ∷ ps) before inside =
     let d = row_with before in
-    let first = links_from-placed (set rows i (row_with before)) 0 i i p (row_with (place_number p before)) d (omega arith) (rw length-set inside) (rw (get_or-set_same rows i (row_with before) d inside) refl) in
-    links_from-each_placed rows i ps (place_number p before) inside
-    ∙ ap (place_links i ps) (rw set-set at first)
+    let first = links_from-placed (set rows i (row_with before)) 0 i i p (row_with (insert_number p before)) d (omega arith) (rw length-set inside) (rw (get_or-set_same rows i (row_with before) d inside) refl) in
+    links_from-each_placed rows i ps (insert_number p before) inside
+    ∙ ap (insert_links i ps) (rw set-set at first)
 
 -- a row without parents that gets these
-pub links_from-filled : (rows : List Row) (i : ℕ) (ps : List ℕ) (row d : Row) → i < length rows → (get_or rows i d).parents.items ≡ [] → row.parents.items ≡ place_numbers ps [] → links_from 0 (set rows i row) ≡ place_links i ps (links_from 0 rows)
+pub links_from-filled : (rows : List Row) (i : ℕ) (ps : List ℕ) (row d : Row) → i < length rows → (get_or rows i d).parents.items ≡ [] → row.parents.items ≡ insert_numbers ps [] → links_from 0 (set rows i row) ≡ insert_links i ps (links_from 0 rows)
 links_from-filled rows i ps row d inside none filled =
-    let to_row : links_from 0 (set rows i (row_with (place_numbers ps []))) ≡ links_from 0 (set rows i row) = (rw set-set at (links_from-same (set rows i row) 0 i (row_with (place_numbers ps [])) row (rw (get_or-set_same rows i row row inside, filled) refl) (rw length-set inside))) in
+    let to_row : links_from 0 (set rows i (row_with (insert_numbers ps []))) ≡ links_from 0 (set rows i row) = (rw set-set at (links_from-same (set rows i row) 0 i (row_with (insert_numbers ps [])) row (rw (get_or-set_same rows i row row inside, filled) refl) (rw length-set inside))) in
     let from_none = links_from-same rows 0 i (row_with []) d (sym none) inside in
-    sym to_row ∙ links_from-each_placed rows i ps [] inside ∙ ap (place_links i ps) from_none
+    sym to_row ∙ links_from-each_placed rows i ps [] inside ∙ ap (insert_links i ps) from_none
 
 -- ---- links that go
 

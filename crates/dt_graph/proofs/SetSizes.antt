@@ -2,14 +2,14 @@
 use Rattle.std.proofs.Common.{◌≡◌, ◌==◌, ℕ, ◌+◌, ◌<◌, ◌≤◌, false, not, ◌&&◌, ◌||◌, IsTrue, List, [], ◌∷◌, length, refl, sym, ap, ◌∙◌, arith, eq-eqb, ne_eqb, ltb-true, inl, inr}
 use Rattle.std.proofs.lemmas.Bool.{or_left, or_right, and_right, cases_eq}
 use Rattle.std.proofs.lemmas.Bool.Decides.{nat_tests}
-use Rattle.dt_graph.specs.Graph.{has_number, place_number}
+use Rattle.dt_graph.specs.Graph.{has_number, insert_number}
 use Rattle.dt_graph.specs.Lawful.{AscendingNumbers}
 use Rattle.dt_graph.proofs.LinkLists.{has_number-placed}
 use Rattle.dt_graph.proofs.Ascending.{AscendingNumbers-placed}
 use Rattle.dt_graph.proofs.AscendingSets.{and_true, same_numbers}
 
 -- one that wasn't there is one more
-pub size_placed : (new : ℕ) (numbers : List ℕ) → has_number numbers new ≡ false → length (place_number new numbers) ≡ length numbers + 1
+pub size_placed : (new : ℕ) (numbers : List ℕ) → has_number numbers new ≡ false → length (insert_number new numbers) ≡ length numbers + 1
 size_placed new [] none = refl
 size_placed new (n ∷ numbers) none = let h = size_placed new numbers in grind (arith, nat_tests)
 
@@ -19,8 +19,8 @@ pub size_removed : (gone : ℕ) (old new : List ℕ) → AscendingNumbers old �
 size_removed gone old new ascends ascends' listed each =
     let none : has_number new gone ≡ false =
     each gone ∙ and_right (has_number old gone) (not (gone == gone)) (ap not (eq-eqb gone gone refl)) in
-    let back : place_number gone new ≡ old =
-    same_numbers (place_number gone new) old (AscendingNumbers-placed gone new ascends') ascends (λ n.
+    let back : insert_number gone new ≡ old =
+    same_numbers (insert_number gone new) old (AscendingNumbers-placed gone new ascends') ascends (λ n.
     has_number-placed gone new n
     ∙ ap (λ t. (gone == n) || t) (each n)
     ∙ elim (cases_eq gone n) [

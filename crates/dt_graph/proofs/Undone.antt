@@ -4,13 +4,13 @@ use Rattle.std.proofs.lemmas.Bool.{and_from, or_left, or_right, eqb-true, false�
 use Rattle.std.proofs.lemmas.Bool.Decides.{nat_tests}
 use Rattle.std.proofs.lemmas.List.Elements.{All-head, All-tail, All-filter}
 use Rattle.dt_graph.specs.InOrder.{find_at, without}
-use Rattle.dt_graph.specs.Graph.{Link, Graph, has_number, is_live, is_link, is_link_before, has_link, AscendingLinks, place_number, place_link, place_links}
+use Rattle.dt_graph.specs.Graph.{Link, Graph, has_number, is_live, is_link, is_link_before, has_link, AscendingLinks, insert_number, insert_link, insert_links}
 use Rattle.dt_graph.specs.Lawful.{AscendingNumbers, LawfulGraph}
 use Rattle.dt_graph.specs.Parents.{parents_of}
 use Rattle.dt_graph.specs.GraphChange.{add_effect, drop_effect, link_effect, unlink_effect, first_repeated}
 use Rattle.dt_graph.specs.Laws.{AddingIsUndone, DroppingIsUndone, LinkingIsUndone, UnlinkingIsUndone}
 use Rattle.dt_graph.specs.declared.limits.TheConstants.{CLASSES, PARENTS}
-use Rattle.dt_graph.proofs.InOrder.{is_some-find, no_some, found_key, remove_placed, put_back_removed, place_first, Ascends-tail}
+use Rattle.dt_graph.proofs.InOrder.{is_some-find, no_some, found_key, remove_inserted, put_back_removed, inserted_first, Ascends-tail}
 use Rattle.dt_graph.proofs.Ascending.{number_order, order_of_links, first_is_lowest, LinkBelowAll, link_below_rest, links_tail}
 use Rattle.dt_graph.proofs.LinkLists.{each_number}
 use Rattle.dt_graph.proofs.ParentLists.{parent_count_listed}
@@ -21,20 +21,20 @@ use Rattle.dt_graph.proofs.Needed.{add_refused, drop_refused, link_refused, unli
 
 -- ---- changes touch one class
 
-others_numbers : (class : ℕ) (numbers : List ℕ) → filter (λ c. not (eqb c class)) (place_number class numbers) ≡ filter (λ c. not (eqb c class)) numbers
+others_numbers : (class : ℕ) (numbers : List ℕ) → filter (λ c. not (eqb c class)) (insert_number class numbers) ≡ filter (λ c. not (eqb c class)) numbers
 others_numbers class [] = rw (eq-eqb class class refl) refl
 others_numbers class (n ∷ numbers) =
     let r = others_numbers class numbers in let e = eq-eqb class class refl in grind arith
 
-others_link : (class parent : ℕ) (links : List Link) → filter (λ (l : Link). not (eqb l.class class)) (place_link (record { class = class; parent = parent }) links) ≡ filter (λ (l : Link). not (eqb l.class class)) links
+others_link : (class parent : ℕ) (links : List Link) → filter (λ (l : Link). not (eqb l.class class)) (insert_link (record { class = class; parent = parent }) links) ≡ filter (λ (l : Link). not (eqb l.class class)) links
 others_link class parent [] = rw (eq-eqb class class refl) refl
 others_link class parent (l ∷ links) =
     let r = others_link class parent links in let e = eq-eqb class class refl in grind arith
 
-others_links : (class : ℕ) (parents : List ℕ) (links : List Link) → filter (λ (l : Link). not (eqb l.class class)) (place_links class parents links) ≡ filter (λ (l : Link). not (eqb l.class class)) links
+others_links : (class : ℕ) (parents : List ℕ) (links : List Link) → filter (λ (l : Link). not (eqb l.class class)) (insert_links class parents links) ≡ filter (λ (l : Link). not (eqb l.class class)) links
 others_links class [] links = refl
 others_links class (p ∷ parents) links =
-    others_links class parents (place_link (record { class = class; parent = p }) links) ∙ others_link class p links
+    others_links class parents (insert_link (record { class = class; parent = p }) links) ∙ others_link class p links
 
 filter_twice : {X : Type 0} (p : X → Bool) (xs : List X) → filter p (filter p xs) ≡ filter p xs
 filter_twice p [] = refl
@@ -65,9 +65,9 @@ found_itself class [] h = cc
 found_itself class (n ∷ numbers) h = let r = found_itself class numbers in grind (arith, nat_tests)
 
 number_back : (class : ℕ) (numbers : List ℕ) → AscendingNumbers numbers → IsTrue (has_number numbers class)
-    → place_number class (filter (λ c. not (eqb c class)) numbers) ≡ numbers
+    → insert_number class (filter (λ c. not (eqb c class)) numbers) ≡ numbers
 number_back class numbers u h =
-    ap (place_number class) (others_said class numbers)
+    ap (insert_number class) (others_said class numbers)
     ∙ put_back_removed (λ n. n) nat_lt (λ a b. eqb a b) number_order class class numbers u (found_itself class numbers h)
 
 number_gone : (class : ℕ) (numbers : List ℕ) → has_number numbers class ≡ false → filter (λ c. not (eqb c class)) numbers ≡ numbers
@@ -79,13 +79,13 @@ abbrev BelowParents : Link → ℕ → List ℕ → Type 0
 BelowParents l class [] = Unit {0}
 BelowParents l class (p ∷ parents) = IsTrue (is_link_before l (record { class = class; parent = p })) × BelowParents l class parents
 
-place_behind : (l : Link) (class : ℕ) (parents : List ℕ) (links : List Link) → BelowParents l class parents
-    → place_links class parents (l ∷ links) ≡ l ∷ place_links class parents links
-place_behind l class [] links h = refl
-place_behind l class (p ∷ parents) links h =
+inserted_behind : (l : Link) (class : ℕ) (parents : List ℕ) (links : List Link) → BelowParents l class parents
+    → insert_links class parents (l ∷ links) ≡ l ∷ insert_links class parents links
+inserted_behind l class [] links h = refl
+inserted_behind l class (p ∷ parents) links h =
     let new : Link = record { class = class; parent = p } in
-    let one : place_link new (l ∷ links) ≡ l ∷ place_link new links = (let b = h.0 in grind (arith, nat_tests)) in
-    ap (place_links class parents) one ∙ place_behind l class parents (place_link new links) h.1
+    let one : insert_link new (l ∷ links) ≡ l ∷ insert_link new links = (let b = h.0 in grind (arith, nat_tests)) in
+    ap (insert_links class parents) one ∙ inserted_behind l class parents (insert_link new links) h.1
 
 parents_behind : (l : Link) (class : ℕ) (links : List Link) → LinkBelowAll l links → BelowParents l class (parents_of links class)
 parents_behind l class [] h = tt
@@ -97,23 +97,23 @@ parents_behind l class (m ∷ links) h =
     ] refl
 
 links_back : (class : ℕ) (links : List Link) → AscendingLinks links
-    → place_links class (parents_of links class) (filter (λ (l : Link). not (eqb l.class class)) links) ≡ links
+    → insert_links class (parents_of links class) (filter (λ (l : Link). not (eqb l.class class)) links) ≡ links
 links_back class [] u = refl
 links_back class (l ∷ links) u =
     let others = filter (λ (l : Link). not (eqb l.class class)) links in
     let ps = parents_of links class in
     let b = link_below_rest l links u in
     let r = links_back class links (links_tail l links u) in
-    let behind = place_behind l class ps others (parents_behind l class links b) in
+    let behind = inserted_behind l class ps others (parents_behind l class links b) in
     elim (eqb l.class class) as (λ t. eqb l.class class ≡ t
-    → place_links class (cond t (l.parent ∷ ps) ps) (cond (not t) (l ∷ others) others) ≡ l ∷ links) [
+    → insert_links class (cond t (l.parent ∷ ps) ps) (cond (not t) (l ∷ others) others) ≡ l ∷ links) [
       | true ↦ λ e.
           let same = eqb-true l.class class e in
-          let own : place_link (record { class = class; parent = l.parent }) others ≡ l ∷ others =
-          subst (λ k. place_link (record { class = k; parent = l.parent }) others ≡ l ∷ others) same
-          (place_first (λ l. l) is_link_before (λ a b. is_link a.class a.parent b) order_of_links l others
+          let own : insert_link (record { class = class; parent = l.parent }) others ≡ l ∷ others =
+          subst (λ k. insert_link (record { class = k; parent = l.parent }) others ≡ l ∷ others) same
+          (inserted_first (λ l. l) is_link_before (λ a b. is_link a.class a.parent b) order_of_links l others
           (All-filter (λ (l : Link). not (eqb l.class class)) (λ k. IsTrue (is_link_before l k)) links b)) in
-          ap (place_links class ps) own ∙ behind ∙ ap (λ ls. l ∷ ls) r
+          ap (insert_links class ps) own ∙ behind ∙ ap (λ ls. l ∷ ls) r
       | false ↦ λ e. behind ∙ ap (λ ls. l ∷ ls) r
     ] refl
 
@@ -173,7 +173,7 @@ link_undone g class parent lawful none =
     let linked = links_after_link g class parent class parent
     ∙ or_left ((class == class) && (parent == parent)) (has_link g.links class parent) (and_from (class == class) (parent == parent) (eq-eqb class class refl) (eq-eqb parent parent refl)) in
     let absent = no_some _ (is_some-find (is_link class parent) g.links ∙ (may_be_linked g class parent none).new) in
-    let gone = remove_placed (λ l. l) is_link_before (λ a b. is_link a.class a.parent b) order_of_links (to class parent) g.links absent in (
+    let gone = remove_inserted (λ l. l) is_link_before (λ a b. is_link a.class a.parent b) order_of_links (to class parent) g.links absent in (
       (unlink_refused (link_effect g class parent) class parent (link_keeps g class parent lawful none)).1 linked,
       ap (λ links. record { classes = g.classes; links = links }) gone,
     )
@@ -190,11 +190,11 @@ unlink_undone g class parent lawful none =
         ∙ rw (eq-eqb class class refl, eq-eqb parent parent refl) (never (has_link g.links class parent))
 
     again : (found : Option Link) → find (is_link class parent) g.links ≡ found → is_some found ≡ true
-        → place_link (to class parent) new.links ≡ g.links
+        → insert_link (to class parent) new.links ≡ g.links
     again None is there = absurd (false≢true there)
     again (Some old) is there =
         let key = found_key (λ l. l) is_link_before (λ a b. is_link a.class a.parent b) order_of_links (to class parent) g.links old is in
-        subst (λ l. place_link l new.links ≡ g.links) key
+        subst (λ l. insert_link l new.links ≡ g.links) key
         (put_back_removed (λ l. l) is_link_before (λ a b. is_link a.class a.parent b) order_of_links (to class parent) old g.links lawful.links_ascend is)
 
     back : link_effect new class parent ≡ g

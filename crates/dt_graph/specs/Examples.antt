@@ -1,6 +1,6 @@
 -- Worked examples of class graphs: the diamond, what is below what in it, and what changes make of it.
 use Rattle.std.specs.Prelude.{◌≡◌, ℕ, true, false, [], ◌∷◌, refl}
-use Rattle.dt_graph.specs.Graph.{Link, Graph, empty_graph, has_number, is_live, is_link, has_link, parent_count, is_link_before, AscendingLinks, place_number, place_link, place_links}
+use Rattle.dt_graph.specs.Graph.{Link, Graph, empty_graph, has_number, is_live, is_link, has_link, parent_count, is_link_before, AscendingLinks, insert_number, insert_link, insert_links}
 use Rattle.dt_graph.specs.Parents.{parents_of}
 use Rattle.dt_graph.specs.Below.{Leads, IsBelow, HasNoCycle, is_below}
 use Rattle.dt_graph.specs.Lawful.{AscendingNumbers}
@@ -113,10 +113,10 @@ what_a_squircle_is = refl
 a_shape_is_nothing_else : parents_of diamond.links shape ≡ []
 a_shape_is_nothing_else = refl
 
-a_class_placed_again_stays_once : place_number circle (shape ∷ circle ∷ square ∷ []) ≡ shape ∷ circle ∷ square ∷ []
+a_class_placed_again_stays_once : insert_number circle (shape ∷ circle ∷ square ∷ []) ≡ shape ∷ circle ∷ square ∷ []
 a_class_placed_again_stays_once = refl
 
-a_class_placed_between : place_number circle (shape ∷ square ∷ []) ≡ shape ∷ circle ∷ square ∷ []
+a_class_placed_between : insert_number circle (shape ∷ square ∷ []) ≡ shape ∷ circle ∷ square ∷ []
 a_class_placed_between = refl
 
 -- the class decides, and of one class the parent
@@ -126,13 +126,13 @@ the_lower_class_first = refl
 then_the_lower_parent : is_link_before (to squircle square) (to squircle circle) ≡ false
 then_the_lower_parent = refl
 
-a_link_placed_between : place_link (to square shape) (to circle shape ∷ to squircle circle ∷ []) ≡ to circle shape ∷ to square shape ∷ to squircle circle ∷ []
+a_link_placed_between : insert_link (to square shape) (to circle shape ∷ to squircle circle ∷ []) ≡ to circle shape ∷ to square shape ∷ to squircle circle ∷ []
 a_link_placed_between = refl
 
-two_links_placed : place_links squircle (square ∷ circle ∷ []) (to circle shape ∷ []) ≡ to circle shape ∷ to squircle circle ∷ to squircle square ∷ []
+two_links_placed : insert_links squircle (square ∷ circle ∷ []) (to circle shape ∷ []) ≡ to circle shape ∷ to squircle circle ∷ to squircle square ∷ []
 two_links_placed = refl
 
-one_link_to_a_parent_named_twice : place_links squircle (circle ∷ circle ∷ []) [] ≡ to squircle circle ∷ []
+one_link_to_a_parent_named_twice : insert_links squircle (circle ∷ circle ∷ []) [] ≡ to squircle circle ∷ []
 one_link_to_a_parent_named_twice = refl
 
 a_class_added_again_changes_nothing : add_effect diamond circle (shape ∷ []) ≡ diamond

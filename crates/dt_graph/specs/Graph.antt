@@ -1,7 +1,7 @@
 -- The class graph: which classes are live, and which class has which parents. Classes are numbers.
 use Rattle.std.specs.Prelude.{◌==◌, ℕ, Bool, ◌&&◌, ◌||◌, nat_lt, List, [], ◌∷◌, count_by}
 use Rattle.std.specs.List.{list_any}
-use Rattle.dt_graph.specs.InOrder.{Ascends, place}
+use Rattle.dt_graph.specs.InOrder.{Ascends, insert_by_key}
 
 -- a class inherits from a parent
 pub record Link : Type 0 where
@@ -46,15 +46,15 @@ abbrev pub AscendingLinks : List Link → Type 0
 AscendingLinks links = Ascends (λ link. link) is_link_before links
 
 -- the numbers with one more, in ascending order; a number that is there already stays
-abbrev pub place_number : ℕ → List ℕ → List ℕ
-place_number number numbers = place (λ n. n) nat_lt (λ a b. a == b) number numbers
+abbrev pub insert_number : ℕ → List ℕ → List ℕ
+insert_number number numbers = insert_by_key (λ n. n) nat_lt (λ a b. a == b) number numbers
 
 -- the links with one more, in ascending order; a link that is there already stays
-abbrev pub place_link : Link → List Link → List Link
-place_link link links = place (λ l. l) is_link_before (λ a b. is_link a.class a.parent b) link links
+abbrev pub insert_link : Link → List Link → List Link
+insert_link link links = insert_by_key (λ l. l) is_link_before (λ a b. is_link a.class a.parent b) link links
 
 -- the links with one to each of these parents
-abbrev pub place_links : ℕ → List ℕ → List Link → List Link
-place_links class [] links = links
-place_links class (parent ∷ parents) links =
-    place_links class parents (place_link (record { class = class; parent = parent }) links)
+abbrev pub insert_links : ℕ → List ℕ → List Link → List Link
+insert_links class [] links = links
+insert_links class (parent ∷ parents) links =
+    insert_links class parents (insert_link (record { class = class; parent = parent }) links)

@@ -2,7 +2,7 @@
 use Rattle.std.specs.Prelude.{◌==◌, ℕ, not, if◌then◌else◌, nat_lt, nat_le, List, [], ◌∷◌, length, Option, None, Some, find, filter}
 use Rattle.std.specs.Option.{option_map}
 use Rattle.dt_graph.specs.Refusal.{cause_if, first_cause}
-use Rattle.dt_graph.specs.Graph.{Link, Graph, has_number, is_live, is_link, has_link, parent_count, place_number, place_link, place_links}
+use Rattle.dt_graph.specs.Graph.{Link, Graph, has_number, is_live, is_link, has_link, parent_count, insert_number, insert_link, insert_links}
 use Rattle.dt_graph.specs.Below.{is_below}
 use Rattle.dt_graph.specs.declared.limits.TheConstants.{PARENTS}
 use Rattle.dt_graph.specs.declared.graph_fault.GraphFault.{GraphFault}
@@ -38,8 +38,8 @@ add_cause graph class parents = first_cause
 -- the class is live, with a link to each parent
 abbrev pub add_effect : Graph → ℕ → List ℕ → Graph
 add_effect graph class parents = record {
-  classes = place_number class graph.classes;
-  links = place_links class parents graph.links;
+  classes = insert_number class graph.classes;
+  links = insert_links class parents graph.links;
 }
 
 -- why a class isn't dropped
@@ -70,7 +70,7 @@ link_cause graph class parent = first_cause
 abbrev pub link_effect : Graph → ℕ → ℕ → Graph
 link_effect graph class parent = record {
   classes = graph.classes;
-  links = place_link (record { class = class; parent = parent }) graph.links;
+  links = insert_link (record { class = class; parent = parent }) graph.links;
 }
 
 -- why a link isn't taken away

@@ -1,6 +1,6 @@
 -- What the rows of a class graph stand for: row k is that of the class k.
 use Rattle.std.specs.Prelude.{◌≡◌, ℕ, ◌+◌, if◌then◌else◌, List, [], ◌∷◌, ◌++◌, length, map}
-use Rattle.dt_graph.specs.Graph.{Link, Graph, place_number}
+use Rattle.dt_graph.specs.Graph.{Link, Graph, insert_number}
 use Rattle.dt_graph.specs.Lawful.{LawfulGraph}
 use Rattle.dt_graph.specs.declared.limits.TheConstants.{CLASSES}
 use Rattle.dt_graph.specs.declared.class_rows.Row.{Row}
@@ -28,6 +28,6 @@ pub record LawfulRows (rows : List Row) : Type 0 where
   pub lawful : LawfulGraph (graph_of rows)
 
 -- the numbers with these placed among them, one after another
-abbrev pub place_numbers : List ℕ → List ℕ → List ℕ
-place_numbers [] numbers = numbers
-place_numbers (new ∷ news) numbers = place_numbers news (place_number new numbers)
+abbrev pub insert_numbers : List ℕ → List ℕ → List ℕ
+insert_numbers [] numbers = numbers
+insert_numbers (new ∷ news) numbers = insert_numbers news (insert_number new numbers)

@@ -16,12 +16,12 @@ Ascends key before (a ∷ []) = Unit {0}
 Ascends key before (a ∷ b ∷ xs) = IsTrue (before (key a) (key b)) × Ascends key before (b ∷ xs)
 
 -- the list with this element in its place; one with the same key goes
-abbrev pub place : {X K : Type 0} → (X → K) → (K → K → Bool) → (K → K → Bool) → X → List X → List X
-place key before same new [] = new ∷ []
-place key before same new (x ∷ xs) =
+abbrev pub insert_by_key : {X K : Type 0} → (X → K) → (K → K → Bool) → (K → K → Bool) → X → List X → List X
+insert_by_key key before same new [] = new ∷ []
+insert_by_key key before same new (x ∷ xs) =
     if before (key new) (key x)
     then new ∷ x ∷ xs
-    else (if same (key new) (key x) then new ∷ xs else x ∷ place key before same new xs)
+    else (if same (key new) (key x) then new ∷ xs else x ∷ insert_by_key key before same new xs)
 
 -- the element with this key, and the list without it
 abbrev pub find_at : {X K : Type 0} → (X → K) → (K → K → Bool) → K → List X → Option X

@@ -3,14 +3,14 @@ ghost use Rattle.dt_graph.specs.Graph.{Graph, empty_graph, is_live, has_link};
 ghost use Rattle.dt_graph.specs.Parents.{parents_of};
 ghost use Rattle.dt_graph.specs.Below.{HasNoCycle, is_below};
 ghost use Rattle.dt_graph.specs.Lawful.{LawfulGraph};
-ghost use Rattle.dt_graph.specs.GraphRows.{place_numbers};
+ghost use Rattle.dt_graph.specs.GraphRows.{insert_numbers};
 ghost use Rattle.dt_graph.specs.declared.limits.TheConstants.{PARENTS};
 ghost use Rattle.dt_graph.specs.GraphChange.{add_cause, add_effect, drop_cause, drop_effect, link_cause, link_effect, unlink_effect};
 
 use crate::class_no::ClassNo;
 use crate::limits::CLASSES;
 use crate::no_memory::NoMemory;
-use crate::parents::{Parents, in_order, place, without};
+use crate::parents::{Parents, in_order, insert, without};
 use arrayvec::ArrayVec;
 use std::alloc::Global;
 use std::marker::Model;
@@ -127,7 +127,7 @@ impl ClassRows {
         ensures { self.new ≡ link_effect self.old class parent }
     {
         let row = &mut self.rows[class.number() as usize];
-        place(&mut row.parents, parent);
+        insert(&mut row.parents, parent);
     }
 
     // The class has one parent less.

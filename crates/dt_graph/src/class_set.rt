@@ -1,5 +1,5 @@
 ghost use Rattle.std.specs.Prelude.{◌≡◌, ◌==◌, ℕ, ◌<◌, ◌≤◌, ◌&&◌, ◌||◌, not, List, [], ◌∷◌, ◌++◌, length, IsTrue, All, IfSome, OnOk, OnErr};
-ghost use Rattle.dt_graph.specs.Graph.{has_number, place_number};
+ghost use Rattle.dt_graph.specs.Graph.{has_number, insert_number};
 ghost use Rattle.dt_graph.specs.Lawful.{AscendingNumbers};
 ghost use Rattle.dt_graph.specs.FirstFrom.{first_from};
 
@@ -128,7 +128,7 @@ impl ClassSet {
 
     /// The class is in the set from now on.
     pub fn insert(&mut self, class: ClassNo)
-        ensures list { self.new ≡ place_number class self.old }
+        ensures list { self.new ≡ insert_number class self.old }
         ensures members { (n : ℕ) → has_number self.new n ≡ ((class == n) || has_number self.old n) }
     {
         let number = class.number() as usize;

@@ -5,14 +5,14 @@ use Rattle.std.specs.List.{AllByRecursion}
 use Rattle.std.specs.Result.{result_unwrap_or}
 use Rattle.std.proofs.lemmas.List.Elements.{All-nil, All-head, All-tail, All-filter}
 use Rattle.dt_graph.specs.Refusal.{cause_if, first_cause, ok_unless}
-use Rattle.dt_graph.specs.Graph.{Link, Graph, has_number, is_live, is_link, has_link, parent_count, place_links, is_link_before}
+use Rattle.dt_graph.specs.Graph.{Link, Graph, has_number, is_live, is_link, has_link, parent_count, insert_links, is_link_before}
 use Rattle.dt_graph.specs.Below.{is_below}
 use Rattle.dt_graph.specs.GraphChange.{unknown, first_unknown, first_repeated, lowest_subclass, add_cause, drop_cause, link_cause, unlink_cause}
 use Rattle.dt_graph.specs.declared.limits.TheConstants.{PARENTS}
 use Rattle.dt_graph.specs.declared.graph_fault.GraphFault.{GraphFault}
 use Rattle.dt_graph.specs.declared.graph_fault.GraphFault.TheVariants as fault
 use Rattle.dt_graph.proofs.Ascending.{order_of_links}
-use Rattle.dt_graph.proofs.InOrder.{All-place}
+use Rattle.dt_graph.proofs.InOrder.{All-insert}
 use Rattle.dt_definitions.specs.Program.{Definition, Program, empty_program, key_of, is_key_before, is_same_key}
 use Rattle.dt_definitions.specs.Step.{why_of, is_named, is_defined, arity_differs, place_causes, refusal, effect, Refused, and_then, step_from, step_batch, stepped, after_from, after}
 use Rattle.dt_selectors.specs.Selectors.{has_selector}
@@ -171,11 +171,11 @@ module _ (C B : ℕ → Type 0) where
   -- ---- effects
 
   linked : (class : ℕ) (parents : List ℕ) (links : List Link) → C class → All (λ (link : Link). C link.class) links
-      → All (λ (link : Link). C link.class) (place_links class parents links)
+      → All (λ (link : Link). C link.class) (insert_links class parents links)
   linked class [] links known all = all
   linked class (parent ∷ parents) links known all =
       linked class parents _ known
-      (All-place (λ l. l) is_link_before (λ a b. is_link a.class a.parent b) order_of_links (λ (link : Link). C link.class)
+      (All-insert (λ l. l) is_link_before (λ a b. is_link a.class a.parent b) order_of_links (λ (link : Link). C link.class)
       (record { class = class; parent = parent }) links known all)
 
   pub effect_known : (p : Program) (edit : Edit) → KnownProgram p → KnownEdit edit → KnownProgram (effect p edit)
@@ -187,7 +187,7 @@ module _ (C B : ℕ → Type 0) where
   effect_known p (DropSelector selector) k e = record { links = k.links; bodies = k.bodies }
   effect_known p (Define selector classes body) k e = record {
     links = k.links;
-    bodies = All-place key_of is_key_before is_same_key key_order (λ (d : Definition). B d.body)
+    bodies = All-insert key_of is_key_before is_same_key key_order (λ (d : Definition). B d.body)
         (record { selector = selector; classes = classes; body = body }) p.definitions e.1 k.bodies;
   }
   effect_known p (Undefine selector classes) k e = record { links = k.links; bodies = All-filter _ (λ (d : Definition). B d.body) p.definitions k.bodies }

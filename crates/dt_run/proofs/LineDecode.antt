@@ -13,7 +13,7 @@ use Rattle.dt_definitions.specs.RefusalWords.{number_of}
 use Rattle.dt_scratch.specs.declared.reply.Answer.TheVariants.{Method, NotUnderstood, Ambiguous}
 use Rattle.dt_scratch.specs.declared.reply.Reply.{Reply}
 use Rattle.dt_scratch.specs.declared.reply.Reply.TheVariants.{NoSelector, WrongArity, NoClass, Answered}
-use Rattle.dt_selectors.specs.Names.{same_text, place_of, is_name, is_name_byte}
+use Rattle.dt_selectors.specs.Names.{same_text, position_of, is_name, is_name_byte}
 use Rattle.dt_selectors.specs.Lawful.{HasDistinctTexts}
 use Rattle.dt_script.specs.NameBook.{NameBook}
 use Rattle.dt_script.specs.LawfulBook.{LawfulBook}
@@ -68,7 +68,7 @@ number_begins n good = by (decimal n) (decimal_is_IsNumeral n (good_number n goo
 
 -- the number of a name
 abbrev number_in : List (List ℕ) → List ℕ → ℕ
-number_in texts text = unwrap_or (place_of text texts) 0
+number_in texts text = unwrap_or (position_of text texts) 0
 
 name_back : (texts : List (List ℕ)) (n : ℕ) → HasDistinctTexts texts → IsTrue (is_some (slice_get texts n) && true) → number_in texts (unwrap_or (slice_get texts n) []) ≡ n
 name_back texts n distinct good = by (slice_get texts n) refl (and_parts (is_some (slice_get texts n)) true good).0

@@ -13,7 +13,7 @@ use Rattle.dt_graph.proofs.Effects.{live_after_add, live_after_drop, live_after_
 use Rattle.dt_graph.proofs.ListMembers.{In, In-from_filter, filter_agree_in, filter-weaker, list_any_agree_in}
 use Rattle.dt_selectors.specs.Selectors.{Selector, arity_in}
 use Rattle.dt_selectors.proofs.Arities.{adding, dropping}
-use Rattle.dt_definitions.specs.Program.{Definition, Program, arity_of, is_definition, key_of, is_key_before, is_same_key, place_definition, same_classes}
+use Rattle.dt_definitions.specs.Program.{Definition, Program, arity_of, is_definition, key_of, is_key_before, is_same_key, insert_definition, same_classes}
 use Rattle.dt_definitions.specs.Step.{effect, with_graph, with_selectors, with_definitions}
 use Rattle.dt_definitions.specs.Laws.{LeadsTo}
 use Rattle.dt_definitions.specs.Differing.{DifferOnlyAt, edited_by, redefined_by}
@@ -95,16 +95,16 @@ other_arity p selectors query same =
 
 -- placing a definition changes nothing in what a filter keeps that passes over it and all others at its selector and
 -- classes
-filter-place : (p : Definition → Bool) (definition : Definition) → ((d : Definition) → d.selector ≡ definition.selector →
+filter-insert : (p : Definition → Bool) (definition : Definition) → ((d : Definition) → d.selector ≡ definition.selector →
     d.classes ≡ definition.classes → p d ≡ false) →
-    (ds : List Definition) → filter p (place_definition definition ds) ≡ filter p ds
-filter-place p definition none [] = rw (none definition refl refl) refl
-filter-place p definition none (d ∷ ds) =
+    (ds : List Definition) → filter p (insert_definition definition ds) ≡ filter p ds
+filter-insert p definition none [] = rw (none definition refl refl) refl
+filter-insert p definition none (d ∷ ds) =
     placed key_of is_key_before is_same_key key_order (λ ys. filter p ys ≡ filter p (d ∷ ds)) definition d ds
     (λ _. rw (none definition refl refl) refl)
     (λ _ g. let same = and_parts _ _ g in
     rw (none definition refl refl, none d (eqb-true _ _ same.0) (same_list_equal d.classes definition.classes same.1)) refl)
-    (λ _ _. rw (filter-place p definition none ds) refl)
+    (λ _ _. rw (filter-insert p definition none ds) refl)
 
 -- nor does taking away one that the filter passes over
 filter-without : (p q : Definition → Bool) → ((d : Definition) → q d ≡ true → p d ≡ false) →
@@ -134,7 +134,7 @@ module _ (p : Program) (query : Query) (selector : ℕ) (classes : List ℕ)
   defined_elsewhere : (body : ℕ) → reply (effect p (edit.Define selector classes body)) query ≡ reply p query
   defined_elsewhere body =
       let new : Definition = record { selector = selector; classes = classes; body = body } in
-      same_found p (place_definition new p.definitions) query (filter-place applies new not_at_its_key p.definitions)
+      same_found p (insert_definition new p.definitions) query (filter-insert applies new not_at_its_key p.definitions)
 
   undefined_elsewhere : reply (effect p (edit.Undefine selector classes)) query ≡ reply p query
   undefined_elsewhere =

@@ -3,7 +3,7 @@ use Rattle.std.specs.Prelude.{◌≡◌, ℕ, true, false, List, [], ◌∷◌, 
 use Rattle.std.specs.declared.cmp.Ordering.TheVariants.{Less, Equal, Greater}
 use Rattle.dt_graph.specs.GraphChange.{add_effect, unlink_effect}
 use Rattle.dt_graph.specs.Graph.{Graph, empty_graph}
-use Rattle.dt_definitions.specs.Program.{Definition, Program, place_definition}
+use Rattle.dt_definitions.specs.Program.{Definition, Program, insert_definition}
 use Rattle.dt_scratch.specs.declared.reply.Answer.TheVariants.{Method, NotUnderstood, Ambiguous}
 use Rattle.dt_scratch.specs.declared.reply.Reply.TheVariants.{NoSelector, WrongArity, NoClass, Answered}
 use Rattle.dt_scratch.specs.Query.{Query, arity_of_query, is_same_query, query_order}
@@ -19,7 +19,7 @@ asks_two selector first second = record { selector = selector; classes = first �
 
 -- with one definition more
 abbrev pub defined : ℕ → List ℕ → ℕ → List Definition → List Definition
-defined selector classes body = place_definition (record { selector = selector; classes = classes; body = body })
+defined selector classes body = insert_definition (record { selector = selector; classes = classes; body = body })
 
 -- The diamond: classes A, B and C below it, D below both; f is defined at B and at C.
 abbrev pub A : ℕ

@@ -3,7 +3,7 @@ use Rattle.std.proofs.Common.{◌≡◌, ℕ, zero, suc, ◌⊎◌, IsTrue, List
 use Rattle.std.specs.List.{list_all, slice_get}
 use Rattle.std.proofs.lemmas.Bool.{and_parts}
 use Rattle.std.proofs.lemmas.List.Elements.{All-push}
-use Rattle.dt_selectors.specs.Names.{Names, is_name, place_of, with_text}
+use Rattle.dt_selectors.specs.Names.{Names, is_name, position_of, with_text}
 use Rattle.dt_selectors.specs.Laws.{NumbersStay, NewNamesAreLast, KnownNamesStay}
 use Rattle.dt_script.specs.NameBook.{NameBook}
 use Rattle.dt_script.specs.LawfulBook.{LawfulTexts, LawfulBook}
@@ -32,16 +32,16 @@ last-cases (t ∷ texts) last text (suc number) e =
     elim (last-cases texts last text number e) [ inl h ↦ inl h | inr h ↦ inr (ap (λ n. suc n) h.0, h.1) ]
 
 text-more : NamesLaw → (name : List ℕ) (texts : List (List ℕ)) → LawfulTexts texts → IsTrue (is_name name) → LawfulTexts (with_text name texts)
-text-more law name texts lawful is = by (place_of name texts) refl
+text-more law name texts lawful is = by (position_of name texts) refl
   where
-    by : (o : Option ℕ) → place_of name texts ≡ o → LawfulTexts (with_text name texts)
+    by : (o : Option ℕ) → position_of name texts ≡ o → LawfulTexts (with_text name texts)
     by (Some number) e = subst LawfulTexts (sym (ap (λ names. names.texts) (law.known (names_of texts) name number e))) lawful
     by None e =
         let (at, last) = law.new (names_of texts) name e in
         record {
           distinct = λ number text there. elim (last-cases texts name text number (subst (λ l. slice_get l number ≡ Some text) last there)) [
             | inl h ↦ law.stay (names_of texts) text name number (lawful.distinct number text h)
-            | inr h ↦ subst (λ t. place_of t (with_text name texts) ≡ Some number) h.1 (at ∙ ap (λ n. Some n) h.0)
+            | inr h ↦ subst (λ t. position_of t (with_text name texts) ≡ Some number) h.1 (at ∙ ap (λ n. Some n) h.0)
           ];
           are_names = subst (λ l. All (λ t. IsTrue (is_name t)) l) (sym last) (All-push (λ t. IsTrue (is_name t)) texts name lawful.are_names is);
         }

@@ -4,7 +4,7 @@ use Rattle.std.specs.Prelude.{slice_get}
 use Rattle.std.specs.List.{list_all, join_with_byte}
 use Rattle.std.proofs.lemmas.List.Splits.{join_with_byte-slice_split}
 use Rattle.std.proofs.lemmas.Bool.{and_parts, eqb-true}
-use Rattle.dt_selectors.specs.Names.{is_name, same_text, place_of, with_text}
+use Rattle.dt_selectors.specs.Names.{is_name, same_text, position_of, with_text}
 use Rattle.dt_script.specs.NameBook.{NameBook, number_in}
 use Rattle.dt_script.specs.Cut.{parts_at}
 use Rattle.dt_script.specs.Word.{Word, AreTexts, text_of_word, book_after, with_word}
@@ -40,20 +40,20 @@ placed-step true name t ts o e there known = ap (λ x. Some x) (same t name e)
 placed-step false name t ts None e there known = absurd cc
 placed-step false name t ts (Some place) e there known = rw add-one (there refl)
 
-placed : (name : List ℕ) (texts : List (List ℕ)) → is_some (place_of name texts) ≡ true → slice_get texts (number_in texts name) ≡ Some name
+placed : (name : List ℕ) (texts : List (List ℕ)) → is_some (position_of name texts) ≡ true → slice_get texts (number_in texts name) ≡ Some name
 placed name [] known = absurd cc
-placed name (t ∷ ts) known = placed-step (same_text t name) name t ts (place_of name ts) refl (placed name ts) known
+placed name (t ∷ ts) known = placed-step (same_text t name) name t ts (position_of name ts) refl (placed name ts) known
 
 -- ---- the names of a line are known after it
 
 abbrev IsKnown : NameBook → Token → Type 0
 IsKnown book (Plain text) = Unit {0}
 IsKnown book (Number number) = Unit {0}
-IsKnown book (ClassName text) = is_some (place_of text book.classes) ≡ true
-IsKnown book (SelectorName text) = is_some (place_of text book.selectors) ≡ true
-IsKnown book (BodyName text) = is_some (place_of text book.bodies) ≡ true
+IsKnown book (ClassName text) = is_some (position_of text book.classes) ≡ true
+IsKnown book (SelectorName text) = is_some (position_of text book.selectors) ≡ true
+IsKnown book (BodyName text) = is_some (position_of text book.bodies) ≡ true
 
-stays : (name other : List ℕ) (texts : List (List ℕ)) → is_some (place_of name texts) ≡ true → is_some (place_of name (with_text other texts)) ≡ true
+stays : (name other : List ℕ) (texts : List (List ℕ)) → is_some (position_of name texts) ≡ true → is_some (position_of name (with_text other texts)) ≡ true
 stays name other texts known = ap is_some (kept name other texts known) ∙ known
 
 stays_known : (book : NameBook) (known other : Token) → IsKnown book known → IsKnown (with_token book other) known

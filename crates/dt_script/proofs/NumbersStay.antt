@@ -7,7 +7,7 @@ use Rattle.dt_selectors.specs.declared.names.NameFault.{NameFault}
 use Rattle.dt_selectors.specs.declared.names.NameFault.TheVariants.{NamesFull, NoMemory}
 use Rattle.dt_graph.specs.declared.limits.TheConstants.{CLASSES}
 use Rattle.dt_selectors.specs.declared.limits.TheConstants.{SELECTORS, BODIES}
-use Rattle.dt_selectors.specs.Names.{same_text, place_of, with_text}
+use Rattle.dt_selectors.specs.Names.{same_text, position_of, with_text}
 use Rattle.dt_script.specs.NameBook.{NameBook, with_class, number_in, is_within_limits}
 use Rattle.dt_script.specs.Numbering.{with_texts, with_classes, numbers_in, IsNumbered}
 
@@ -17,21 +17,21 @@ same_text-self [] = refl
 same_text-self (x ∷ xs) = rw (eq-eqb x x refl) (same_text-self xs)
 
 -- a name has a place once it was taken
-named-step : (b : Bool) (name t : List ℕ) (ts ws : List (List ℕ)) → same_text t name ≡ b → is_some (place_of name ws) ≡ true → is_some (place_of name (cond b (t ∷ ts) (t ∷ ws))) ≡ true
+named-step : (b : Bool) (name t : List ℕ) (ts ws : List (List ℕ)) → same_text t name ≡ b → is_some (position_of name ws) ≡ true → is_some (position_of name (cond b (t ∷ ts) (t ∷ ws))) ≡ true
 named-step true name t ts ws e there = rw e refl
-named-step false name t ts ws e there = rw e (below (place_of name ws) there)
+named-step false name t ts ws e there = rw e (below (position_of name ws) there)
   where
     below : (o : Option ℕ) → is_some o ≡ true → is_some (option_map (λ place. place + 1) o) ≡ true
     below None there = there
     below (Some place) there = refl
 
-pub named : (name : List ℕ) (texts : List (List ℕ)) → is_some (place_of name (with_text name texts)) ≡ true
+pub named : (name : List ℕ) (texts : List (List ℕ)) → is_some (position_of name (with_text name texts)) ≡ true
 named name [] = rw (same_text-self name) refl
 named name (t ∷ ts) = named-step (same_text t name) name t ts (with_text name ts) refl (named name ts)
 
 -- and keeps it
-kept-step : (b : Bool) (name t : List ℕ) (ts ws : List (List ℕ)) → (is_some (place_of name ts) ≡ true → place_of name ws ≡ place_of name ts)
-    → is_some (place_of name (t ∷ ts)) ≡ true → place_of name (cond b (t ∷ ts) (t ∷ ws)) ≡ place_of name (t ∷ ts)
+kept-step : (b : Bool) (name t : List ℕ) (ts ws : List (List ℕ)) → (is_some (position_of name ts) ≡ true → position_of name ws ≡ position_of name ts)
+    → is_some (position_of name (t ∷ ts)) ≡ true → position_of name (cond b (t ∷ ts) (t ∷ ws)) ≡ position_of name (t ∷ ts)
 kept-step true name t ts ws kept there = refl
 kept-step false name t ts ws kept there = by (same_text t name) there
   where
@@ -39,12 +39,12 @@ kept-step false name t ts ws kept there = by (same_text t name) there
     below None there = there
     below (Some place) there = refl
 
-    by : (c : Bool) → is_some (cond c (Some 0) (option_map (λ place. place + 1) (place_of name ts))) ≡ true
-        → cond c (Some 0) (option_map (λ place. place + 1) (place_of name ws)) ≡ cond c (Some 0) (option_map (λ place. place + 1) (place_of name ts))
+    by : (c : Bool) → is_some (cond c (Some 0) (option_map (λ place. place + 1) (position_of name ts))) ≡ true
+        → cond c (Some 0) (option_map (λ place. place + 1) (position_of name ws)) ≡ cond c (Some 0) (option_map (λ place. place + 1) (position_of name ts))
     by true there = refl
-    by false there = ap (option_map (λ place. place + 1)) (kept (below (place_of name ts) there))
+    by false there = ap (option_map (λ place. place + 1)) (kept (below (position_of name ts) there))
 
-pub kept : (name other : List ℕ) (texts : List (List ℕ)) → is_some (place_of name texts) ≡ true → place_of name (with_text other texts) ≡ place_of name texts
+pub kept : (name other : List ℕ) (texts : List (List ℕ)) → is_some (position_of name texts) ≡ true → position_of name (with_text other texts) ≡ position_of name texts
 kept name other [] there = absurd cc
 kept name other (t ∷ ts) there = kept-step (same_text t other) name t ts (with_text other ts) (kept name other ts) there
 
@@ -52,7 +52,7 @@ pub number_stays : (name other : List ℕ) (texts : List (List ℕ)) → number_
 number_stays name other texts = ap (λ place. unwrap_or place 0) (kept name other (with_text name texts) (named name texts))
 
 -- whatever comes after it
-pub kept_by_all : (name : List ℕ) (texts more : List (List ℕ)) → is_some (place_of name texts) ≡ true → place_of name (with_texts texts more) ≡ place_of name texts
+pub kept_by_all : (name : List ℕ) (texts more : List (List ℕ)) → is_some (position_of name texts) ≡ true → position_of name (with_texts texts more) ≡ position_of name texts
 kept_by_all name texts [] there = refl
 kept_by_all name texts (other ∷ more) there =
     let step = kept name other texts there in
@@ -84,14 +84,14 @@ one_more-step : (b : Bool) (t : List ℕ) (ts ws : List (List ℕ)) (o : Option 
 one_more-step true t ts ws o more new = absurd cc
 one_more-step false t ts ws o more new = omega (arith, more (new_below o new))
 
-one_more : (text : List ℕ) (texts : List (List ℕ)) → is_none (place_of text texts) ≡ true → length (with_text text texts) ≡ length texts + 1
+one_more : (text : List ℕ) (texts : List (List ℕ)) → is_none (position_of text texts) ≡ true → length (with_text text texts) ≡ length texts + 1
 one_more text [] new = refl
-one_more text (t ∷ ts) new = one_more-step (same_text t text) t ts (with_text text ts) (place_of text ts) (one_more text ts) new
+one_more text (t ∷ ts) new = one_more-step (same_text t text) t ts (with_text text ts) (position_of text ts) (one_more text ts) new
 
 -- a list is full for a text that is new where it holds as many as it may
-pub full-list : (limit : ℕ) (text : List ℕ) (texts : List (List ℕ)) → IsTrue (is_none (place_of text texts) && nat_le limit (length texts)) → limit < length (with_text text texts)
+pub full-list : (limit : ℕ) (text : List ℕ) (texts : List (List ℕ)) → IsTrue (is_none (position_of text texts) && nat_le limit (length texts)) → limit < length (with_text text texts)
 full-list limit text texts full =
-    let both = and_parts (is_none (place_of text texts)) (nat_le limit (length texts)) full in
+    let both = and_parts (is_none (position_of text texts)) (nat_le limit (length texts)) full in
     omega (arith, one_more text texts both.0, leb-true limit (length texts) both.1)
 
 -- and then the book isn't within its limits, whatever comes after it
@@ -103,7 +103,7 @@ not_within book many = by (nat_le (length book.classes) CLASSES) refl
     by false few = refl
 
 -- a class that doesn't fit
-pub full_class : (book : NameBook) (name : List ℕ) (more : List (List ℕ)) → IsTrue (is_none (place_of name book.classes) && nat_le CLASSES (length book.classes))
+pub full_class : (book : NameBook) (name : List ℕ) (more : List (List ℕ)) → IsTrue (is_none (position_of name book.classes) && nat_le CLASSES (length book.classes))
     → IsTrue (not (is_within_limits (with_classes (with_class book name) more)))
 full_class book name more full =
     not_within (with_classes (with_class book name) more) (omega (arith, full-list CLASSES name book.classes full, grow_by_all (with_text name book.classes) more))
@@ -122,7 +122,7 @@ handed_number old new names (Err NoMemory) fault same full = tt
 
 -- the numbers of names that were numbered before others
 pub numbers_stay : (middle new : NameBook) (more : List (List ℕ)) (number : ℕ) (name : List ℕ) → new ≡ with_classes middle more
-    → is_some (place_of name middle.classes) ≡ true → number ≡ number_in middle.classes name → number ≡ number_in new.classes name
+    → is_some (position_of name middle.classes) ≡ true → number ≡ number_in middle.classes name → number ≡ number_in new.classes name
 numbers_stay middle new more number name is known same =
     same ∙ ap (λ place. unwrap_or place 0) (sym (kept_by_all name middle.classes more known)) ∙ ap (λ k. number_in k.classes name) (sym is)
 
@@ -141,7 +141,7 @@ many_stay book more many = by (nat_le (length book.classes) CLASSES) (nat_le (le
         absurd (omega (arith, over, grow_by_all book.classes more, leb-true (length (with_texts book.classes more)) CLASSES few'))
 
 -- both of two names are known
-pub first_known : (a b : List ℕ) (texts : List (List ℕ)) → is_some (place_of a (with_text b (with_text a texts))) ≡ true
+pub first_known : (a b : List ℕ) (texts : List (List ℕ)) → is_some (position_of a (with_text b (with_text a texts))) ≡ true
 first_known a b texts = ap is_some (kept a b (with_text a texts) (named a texts)) ∙ named a texts
 
 -- the numbers of three and of four classes
@@ -149,8 +149,8 @@ pub three_numbers : (old middle new : NameBook) (a b c : List ℕ) (x y z : ℕ)
     → x ≡ number_in middle.classes a → y ≡ number_in middle.classes b → z ≡ number_in new.classes c → numbers ≡ x ∷ y ∷ z ∷ []
     → (new ≡ with_classes old (a ∷ b ∷ c ∷ [])) × (numbers ≡ numbers_in new (a ∷ b ∷ c ∷ []))
 three_numbers old middle new a b c x y z numbers m n is_x is_y is_z are =
-    let known_a : is_some (place_of a middle.classes) ≡ true = ap (λ k. is_some (place_of a k.classes)) m ∙ first_known a b old.classes in
-    let known_b : is_some (place_of b middle.classes) ≡ true = ap (λ k. is_some (place_of b k.classes)) m ∙ named b (with_text a old.classes) in
+    let known_a : is_some (position_of a middle.classes) ≡ true = ap (λ k. is_some (position_of a k.classes)) m ∙ first_known a b old.classes in
+    let known_b : is_some (position_of b middle.classes) ≡ true = ap (λ k. is_some (position_of b k.classes)) m ∙ named b (with_text a old.classes) in
     let in_x : x ≡ number_in new.classes a = numbers_stay middle new (c ∷ []) x a n known_a is_x in
     let in_y : y ≡ number_in new.classes b = numbers_stay middle new (c ∷ []) y b n known_b is_y in
     (n ∙ ap (λ k. with_class k c) m, cc)
@@ -159,8 +159,8 @@ pub four_numbers : (old middle new : NameBook) (a b c d : List ℕ) (x y z w : �
     → x ≡ number_in middle.classes a → y ≡ number_in middle.classes b → z ≡ number_in new.classes c → w ≡ number_in new.classes d → numbers ≡ x ∷ y ∷ z ∷ w ∷ []
     → (new ≡ with_classes old (a ∷ b ∷ c ∷ d ∷ [])) × (numbers ≡ numbers_in new (a ∷ b ∷ c ∷ d ∷ []))
 four_numbers old middle new a b c d x y z w numbers m n is_x is_y is_z is_w are =
-    let known_a : is_some (place_of a middle.classes) ≡ true = ap (λ k. is_some (place_of a k.classes)) m ∙ first_known a b old.classes in
-    let known_b : is_some (place_of b middle.classes) ≡ true = ap (λ k. is_some (place_of b k.classes)) m ∙ named b (with_text a old.classes) in
+    let known_a : is_some (position_of a middle.classes) ≡ true = ap (λ k. is_some (position_of a k.classes)) m ∙ first_known a b old.classes in
+    let known_b : is_some (position_of b middle.classes) ≡ true = ap (λ k. is_some (position_of b k.classes)) m ∙ named b (with_text a old.classes) in
     let in_x : x ≡ number_in new.classes a = numbers_stay middle new (c ∷ d ∷ []) x a n known_a is_x in
     let in_y : y ≡ number_in new.classes b = numbers_stay middle new (c ∷ d ∷ []) y b n known_b is_y in
     (n ∙ ap (λ k. with_class (with_class k c) d) m, cc)
@@ -170,6 +170,6 @@ pub parents_step : (names names' : NameBook) (name : List ℕ) (all rest : List 
     → ((new : NameBook) → new ≡ with_classes names (name ∷ rest) → numbers_in new all ≡ items ++ numbers_in new (name ∷ rest))
     → (new : NameBook) → new ≡ with_classes names' rest → numbers_in new all ≡ (items ++ number ∷ []) ++ numbers_in new rest
 parents_step names names' name all rest items number is is_number so_far new new_is =
-    let known : is_some (place_of name names'.classes) ≡ true = ap (λ k. is_some (place_of name k.classes)) is ∙ named name names.classes in
+    let known : is_some (position_of name names'.classes) ≡ true = ap (λ k. is_some (position_of name k.classes)) is ∙ named name names.classes in
     let stays : number ≡ number_in new.classes name = numbers_stay names' new rest number name new_is known is_number in
     so_far new (new_is ∙ ap (λ k. with_classes k rest) is) ∙ ap (λ k. items ++ k ∷ numbers_in new rest) (sym stays) ∙ sym (append_assoc items (number ∷ []) (numbers_in new rest))

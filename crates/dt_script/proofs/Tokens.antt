@@ -5,7 +5,7 @@ use Rattle.std.proofs.lemmas.Bool.{and_parts, and_from, leb-true}
 use Rattle.std.proofs.lemmas.Bool.Decides.{nat_tests}
 use Rattle.dt_graph.specs.declared.limits.TheConstants.{CLASSES}
 use Rattle.dt_selectors.specs.declared.limits.TheConstants.{SELECTORS, BODIES}
-use Rattle.dt_selectors.specs.Names.{place_of}
+use Rattle.dt_selectors.specs.Names.{position_of}
 use Rattle.dt_selectors.specs.declared.names.NameFault.{NameFault}
 use Rattle.dt_selectors.specs.declared.names.NameFault.TheVariants.{NamesFull, NoMemory}
 use Rattle.dt_script.specs.NameBook.{NameBook, with_class, with_selector, with_body, number_in, is_within_limits}
@@ -68,17 +68,17 @@ many_tokens book tokens many = not_true (is_within_limits (with_tokens book toke
     absurd cc)
 
 -- and so does one that a name doesn't fit
-pub full_class : (book : NameBook) (name : List ℕ) (tokens : List Token) → IsTrue (is_none (place_of name book.classes) && nat_le CLASSES (length book.classes))
+pub full_class : (book : NameBook) (name : List ℕ) (tokens : List Token) → IsTrue (is_none (position_of name book.classes) && nat_le CLASSES (length book.classes))
     → IsTrue (not (is_within_limits (with_tokens (with_class book name) tokens)))
 full_class book name tokens full = not_true (is_within_limits (with_tokens (with_class book name) tokens)) (λ within.
     omega (arith, (within_parts (with_tokens (with_class book name) tokens) within).0, (larger (with_class book name) tokens).classes, full-list CLASSES name book.classes full))
 
-pub full_selector : (book : NameBook) (name : List ℕ) (tokens : List Token) → IsTrue (is_none (place_of name book.selectors) && nat_le SELECTORS (length book.selectors))
+pub full_selector : (book : NameBook) (name : List ℕ) (tokens : List Token) → IsTrue (is_none (position_of name book.selectors) && nat_le SELECTORS (length book.selectors))
     → IsTrue (not (is_within_limits (with_tokens (with_selector book name) tokens)))
 full_selector book name tokens full = not_true (is_within_limits (with_tokens (with_selector book name) tokens)) (λ within.
     omega (arith, (within_parts (with_tokens (with_selector book name) tokens) within).1, (larger (with_selector book name) tokens).selectors, full-list SELECTORS name book.selectors full))
 
-pub full_body : (book : NameBook) (name : List ℕ) (tokens : List Token) → IsTrue (is_none (place_of name book.bodies) && nat_le BODIES (length book.bodies))
+pub full_body : (book : NameBook) (name : List ℕ) (tokens : List Token) → IsTrue (is_none (position_of name book.bodies) && nat_le BODIES (length book.bodies))
     → IsTrue (not (is_within_limits (with_tokens (with_body book name) tokens)))
 full_body book name tokens full = not_true (is_within_limits (with_tokens (with_body book name) tokens)) (λ within.
     omega (arith, (within_parts (with_tokens (with_body book name) tokens) within).2, (larger (with_body book name) tokens).bodies, full-list BODIES name book.bodies full))
@@ -113,7 +113,7 @@ define_classes_full old book selector names tokens is many =
     (many_tokens (with_classes book names) tokens many)
 
 pub define_body_full : (old book middle : NameBook) (selector body arrow : List ℕ) (names : List (List ℕ)) → book ≡ with_selector old selector → middle ≡ with_classes book names
-    → IsTrue (is_none (place_of body middle.bodies) && nat_le BODIES (length middle.bodies))
+    → IsTrue (is_none (position_of body middle.bodies) && nat_le BODIES (length middle.bodies))
     → IsTrue (not (is_within_limits (with_tokens (with_selector old selector) (map ClassName names ++ Plain arrow ∷ BodyName body ∷ []))))
 define_body_full old book middle selector body arrow names is middle_is full =
     subst (λ (b : NameBook). IsTrue (not (is_within_limits b)))
@@ -131,7 +131,7 @@ pub subclass_numbered : (old book new : NameBook) (name : List ℕ) (names : Lis
     → new ≡ with_classes book names → items ≡ numbers_in new names → parents ≡ items
     → (new ≡ with_tokens (with_class old name) (map ClassName names)) × (line.AddClass class parents ≡ line.AddClass (number_in new.classes name) (numbers_in new names))
 subclass_numbered old book new name names class parents items is is_class new_is are same =
-    let known : is_some (place_of name book.classes) ≡ true = ap (λ k. is_some (place_of name k.classes)) is ∙ named name old.classes in
+    let known : is_some (position_of name book.classes) ≡ true = ap (λ k. is_some (position_of name k.classes)) is ∙ named name old.classes in
     let stays : class ≡ number_in new.classes name = numbers_stay book new names class name new_is known is_class in
     (new_is ∙ ap (λ b. with_classes b names) is ∙ sym (classes-alone (with_class old name) names), cc)
 

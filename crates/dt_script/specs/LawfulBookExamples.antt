@@ -1,7 +1,7 @@
 -- Worked examples of lawful books.
 use Rattle.std.specs.Prelude.{◌≡◌, IsTrue, [], ◌∷◌, Some, codes, refl}
 use Rattle.std.proofs.lemmas.List.Elements.{All-nil}
-use Rattle.dt_selectors.specs.Names.{is_name, place_of}
+use Rattle.dt_selectors.specs.Names.{is_name, position_of}
 use Rattle.dt_script.specs.NameBook.{empty_book}
 use Rattle.dt_script.specs.LawfulBook.{LawfulTexts, LawfulBook}
 
@@ -14,5 +14,5 @@ no_names_are_lawful = record { classes = no_texts; selectors = no_texts; bodies 
 -- a class that has two numbers
 one_class_twice : LawfulBook (record { classes = codes "A" ∷ codes "A" ∷ []; selectors = []; bodies = [] }) → ⊥
 one_class_twice lawful =
-    let second : place_of (codes "A") (codes "A" ∷ codes "A" ∷ []) ≡ Some 1 = lawful.classes.distinct 1 (codes "A") refl in
+    let second : position_of (codes "A") (codes "A" ∷ codes "A" ∷ []) ≡ Some 1 = lawful.classes.distinct 1 (codes "A") refl in
     cc

@@ -1,7 +1,7 @@
 -- The names of a script: classes, selectors and bodies, each numbered in the order of their first appearance.
 use Rattle.std.specs.Prelude.{ℕ, Bool, ◌&&◌, nat_le, List, [], length, unwrap_or}
 use Rattle.dt_graph.specs.declared.limits.TheConstants.{CLASSES}
-use Rattle.dt_selectors.specs.Names.{place_of, with_text}
+use Rattle.dt_selectors.specs.Names.{position_of, with_text}
 use Rattle.dt_selectors.specs.declared.limits.TheConstants.{SELECTORS, BODIES}
 
 -- the names so far: a name's number is its place in its list
@@ -29,7 +29,7 @@ with_body book name = record
 
 -- the number of a name in its list
 abbrev pub number_in : List (List ℕ) → List ℕ → ℕ
-number_in texts name = unwrap_or (place_of name texts) 0
+number_in texts name = unwrap_or (position_of name texts) 0
 
 -- whether no list holds more names than it may
 abbrev pub is_within_limits : NameBook → Bool

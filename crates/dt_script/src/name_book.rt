@@ -1,6 +1,6 @@
 ghost use Rattle.std.specs.Prelude.{◌≡◌, ◌↔◌, ◌<◌, IsTrue, IfOk, OnOk, OnErr, IsErrOf, is_none, nat_le, ◌&&◌, length, slice_get};
 ghost use Rattle.std.specs.Option.{option_copied};
-ghost use Rattle.dt_selectors.specs.Names.{is_name, place_of};
+ghost use Rattle.dt_selectors.specs.Names.{is_name, position_of};
 ghost use Rattle.dt_script.specs.Growth.{GrewAtEnd};
 ghost use Rattle.dt_script.specs.LawfulBook.{LawfulBook};
 ghost use Rattle.dt_script.specs.NameBook.{empty_book, is_within_limits, with_class, with_selector, with_body, number_in};
@@ -62,7 +62,7 @@ impl NameBook {
         ensures ok { OnOk result (self.new ≡ with_class self.old name.now) }
         ensures number { IfOk result (λ class. class ≡ number_in self.new.classes name.now) }
         ensures full { IsErrOf result NameFault.NamesFull
-            ↔ IsTrue (is_none (place_of name.now self.old.classes) && nat_le CLASSES (length self.old.classes)) }
+            ↔ IsTrue (is_none (position_of name.now self.old.classes) && nat_le CLASSES (length self.old.classes)) }
         ensures err { OnErr result (self.new ≡ self.old) }
         ensures grew { GrewAtEnd self.old self.new }
     {
@@ -82,7 +82,7 @@ impl NameBook {
         ensures ok { OnOk result (self.new ≡ with_selector self.old name.now) }
         ensures number { IfOk result (λ selector. selector ≡ number_in self.new.selectors name.now) }
         ensures full { IsErrOf result NameFault.NamesFull
-            ↔ IsTrue (is_none (place_of name.now self.old.selectors) && nat_le SELECTORS (length self.old.selectors)) }
+            ↔ IsTrue (is_none (position_of name.now self.old.selectors) && nat_le SELECTORS (length self.old.selectors)) }
         ensures err { OnErr result (self.new ≡ self.old) }
         ensures grew { GrewAtEnd self.old self.new }
     {
@@ -102,7 +102,7 @@ impl NameBook {
         ensures ok { OnOk result (self.new ≡ with_body self.old name.now) }
         ensures number { IfOk result (λ body. body ≡ number_in self.new.bodies name.now) }
         ensures full { IsErrOf result NameFault.NamesFull
-            ↔ IsTrue (is_none (place_of name.now self.old.bodies) && nat_le BODIES (length self.old.bodies)) }
+            ↔ IsTrue (is_none (position_of name.now self.old.bodies) && nat_le BODIES (length self.old.bodies)) }
         ensures err { OnErr result (self.new ≡ self.old) }
         ensures grew { GrewAtEnd self.old self.new }
     {

@@ -3,13 +3,13 @@ use Rattle.std.proofs.Common.{◌≡◌, ◌==◌, ℕ, ◌<◌, ◌≤◌, cond
 use Rattle.std.specs.List.{AllByRecursion}
 use Rattle.std.proofs.lemmas.Bool.Decides.{nat_tests}
 use Rattle.std.proofs.lemmas.List.Elements.{recursion_from_All}
-use Rattle.dt_selectors.specs.Selectors.{Selector, arity_in, place_selector, without_selector}
+use Rattle.dt_selectors.specs.Selectors.{Selector, arity_in, insert_selector, without_selector}
 use Rattle.dt_selectors.specs.Lawful.{LawfulSelector, LawfulSelectors}
 use Rattle.dt_selectors.specs.Laws.{AddingSetsOneArity, DroppingUnsetsOneArity}
 use Rattle.dt_selectors.specs.declared.limits.TheConstants.{SELECTORS}
 
 placed : (new : Selector) (number : ℕ) (ts : List Selector) →
-    arity_in (place_selector new ts) number ≡ cond (new.number == number) (Some new.arity) (arity_in ts number)
+    arity_in (insert_selector new ts) number ≡ cond (new.number == number) (Some new.arity) (arity_in ts number)
 placed new number [] = grind (arith, nat_tests)
 placed new number (t ∷ ts) = let h = placed new number ts in grind (arith, nat_tests)
 

@@ -5,8 +5,8 @@ use Rattle.std.proofs.lemmas.Bool.Decides.{nat_tests}
 use Rattle.std.proofs.lemmas.List.Elements.{All-nil, All-filter}
 use Rattle.dt_graph.specs.InOrder.{StrictOrder}
 use Rattle.dt_graph.proofs.Ascending.{number_order}
-use Rattle.dt_graph.proofs.InOrder.{Ascends-place, Ascends-filter, All-place, stands_once}
-use Rattle.dt_selectors.specs.Selectors.{Selector, place_selector, without_selector}
+use Rattle.dt_graph.proofs.InOrder.{Ascends-insert, Ascends-filter, All-insert, stands_once}
+use Rattle.dt_selectors.specs.Selectors.{Selector, insert_selector, without_selector}
 use Rattle.dt_selectors.specs.Lawful.{AscendingSelectors, LawfulSelector, LawfulSelectors}
 
 -- selectors are in strict order of their numbers
@@ -19,20 +19,20 @@ selector_order = record {
   reflexive = number_order.reflexive;
 }
 
-pub place-ascends : (s : Selector) (ss : List Selector) → AscendingSelectors ss → AscendingSelectors (place_selector s ss)
-place-ascends s ss h = Ascends-place (λ s. s.number) nat_lt (λ a b. eqb b a) selector_order s ss h
+pub insert-ascends : (s : Selector) (ss : List Selector) → AscendingSelectors ss → AscendingSelectors (insert_selector s ss)
+insert-ascends s ss h = Ascends-insert (λ s. s.number) nat_lt (λ a b. eqb b a) selector_order s ss h
 
 pub filter-ascends : (p : Selector → Bool) (ss : List Selector) → AscendingSelectors ss → AscendingSelectors (filter p ss)
 filter-ascends p ss h = Ascends-filter (λ s. s.number) nat_lt (λ a b. eqb b a) selector_order p ss h
 
-pub place-all : (P : Selector → Type 0) (s : Selector) (ss : List Selector) → P s → All P ss → All P (place_selector s ss)
-place-all P s ss p h = All-place (λ s. s.number) nat_lt (λ a b. eqb b a) selector_order P s ss p h
+pub insert-all : (P : Selector → Type 0) (s : Selector) (ss : List Selector) → P s → All P ss → All P (insert_selector s ss)
+insert-all P s ss p h = All-insert (λ s. s.number) nat_lt (λ a b. eqb b a) selector_order P s ss p h
 
 pub empty_lawful : LawfulSelectors []
 empty_lawful = record { ascend = tt; in_range = All-nil LawfulSelector }
 
-pub add_keeps : (ss : List Selector) (s : Selector) → LawfulSelectors ss → LawfulSelector s → LawfulSelectors (place_selector s ss)
-add_keeps ss s l h = record { ascend = place-ascends s ss l.ascend; in_range = place-all LawfulSelector s ss h l.in_range }
+pub add_keeps : (ss : List Selector) (s : Selector) → LawfulSelectors ss → LawfulSelector s → LawfulSelectors (insert_selector s ss)
+add_keeps ss s l h = record { ascend = insert-ascends s ss l.ascend; in_range = insert-all LawfulSelector s ss h l.in_range }
 
 pub drop_keeps : (ss : List Selector) (selector : ℕ) → LawfulSelectors ss → LawfulSelectors (without_selector ss selector)
 drop_keeps ss selector l = record {

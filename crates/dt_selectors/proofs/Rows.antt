@@ -4,7 +4,7 @@ use Rattle.std.proofs.lemmas.Bool.Decides.{nat_tests}
 use Rattle.std.proofs.lemmas.List.Elements.{All-nil, All-cons, All-head, All-tail}
 use Rattle.std.proofs.lemmas.Option.{slice_get_read}
 use Rattle.std.specs.Option.{option_flatten}
-use Rattle.dt_selectors.specs.Selectors.{Selector, arity_in, place_selector, without_selector}
+use Rattle.dt_selectors.specs.Selectors.{Selector, arity_in, insert_selector, without_selector}
 use Rattle.dt_selectors.specs.Lawful.{AscendingSelectors, LawfulSelector, LawfulSelectors}
 use Rattle.dt_selectors.specs.Rows.{selectors_from, AritiesInRange}
 use Rattle.dt_selectors.specs.declared.limits.TheConstants.{SELECTORS}
@@ -41,29 +41,29 @@ arity-row rows i row within read =
     arity-at i 0 i rows (omega arith) ∙ ap option_flatten (slice_get_read rows (length rows) i row refl within read)
 
 -- a write of an arity places the selector
-place-first : (q a number : ℕ) (rows : List (Option ℕ)) → q < number
-    → place_selector (record { number = q; arity = a }) (selectors_from number rows) ≡ record { number = q; arity = a } ∷ selectors_from number rows
-place-first q a number [] h = refl
-place-first q a number (None ∷ rows) h = place-first q a (number + 1) rows (omega arith)
-place-first q a number (Some b ∷ rows) h = rw (ltb-yes q number h) refl
+insert-first : (q a number : ℕ) (rows : List (Option ℕ)) → q < number
+    → insert_selector (record { number = q; arity = a }) (selectors_from number rows) ≡ record { number = q; arity = a } ∷ selectors_from number rows
+insert-first q a number [] h = refl
+insert-first q a number (None ∷ rows) h = insert-first q a (number + 1) rows (omega arith)
+insert-first q a number (Some b ∷ rows) h = rw (ltb-yes q number h) refl
 
-place-at : (q a number i : ℕ) (rows : List (Option ℕ)) → q ≡ number + i → i < length rows
-    → place_selector (record { number = q; arity = a }) (selectors_from number rows) ≡ selectors_from number (set rows i (Some a))
-place-at q a number i [] e h = absurd (omega arith)
-place-at q a number zero (None ∷ rows) e h =
+insert-at : (q a number i : ℕ) (rows : List (Option ℕ)) → q ≡ number + i → i < length rows
+    → insert_selector (record { number = q; arity = a }) (selectors_from number rows) ≡ selectors_from number (set rows i (Some a))
+insert-at q a number i [] e h = absurd (omega arith)
+insert-at q a number zero (None ∷ rows) e h =
     let same : q ≡ number = omega arith in
-    place-first q a (number + 1) rows (omega arith) ∙ ap (λ n. record { number = n; arity = a } ∷ selectors_from (number + 1) rows) same
-place-at q a number zero (Some b ∷ rows) e h =
+    insert-first q a (number + 1) rows (omega arith) ∙ ap (λ n. record { number = n; arity = a } ∷ selectors_from (number + 1) rows) same
+insert-at q a number zero (Some b ∷ rows) e h =
     let same : q ≡ number = omega arith in
     rw (ltb-no q number (omega arith), eq-eqb number q (omega arith)) (ap (λ n. record { number = n; arity = a } ∷ selectors_from (number + 1) rows) same)
-place-at q a number (suc i) (None ∷ rows) e h = place-at q a (number + 1) i rows (omega arith) (omega arith)
-place-at q a number (suc i) (Some b ∷ rows) e h =
+insert-at q a number (suc i) (None ∷ rows) e h = insert-at q a (number + 1) i rows (omega arith) (omega arith)
+insert-at q a number (suc i) (Some b ∷ rows) e h =
     rw (ltb-no q number (omega arith), eqb-no number q (omega arith))
-    (ap (λ rest. record { number = number; arity = b } ∷ rest) (place-at q a (number + 1) i rows (omega arith) (omega arith)))
+    (ap (λ rest. record { number = number; arity = b } ∷ rest) (insert-at q a (number + 1) i rows (omega arith) (omega arith)))
 
-pub place-row : (rows : List (Option ℕ)) (i a : ℕ) → i < length rows
-    → place_selector (record { number = i; arity = a }) (selectors_from 0 rows) ≡ selectors_from 0 (set rows i (Some a))
-place-row rows i a within = place-at i a 0 i rows (omega arith) within
+pub insert-row : (rows : List (Option ℕ)) (i a : ℕ) → i < length rows
+    → insert_selector (record { number = i; arity = a }) (selectors_from 0 rows) ≡ selectors_from 0 (set rows i (Some a))
+insert-row rows i a within = insert-at i a 0 i rows (omega arith) within
 
 -- a write of no arity takes the selector away
 without-below : (q number : ℕ) (rows : List (Option ℕ)) → q < number → without_selector (selectors_from number rows) q ≡ selectors_from number rows

@@ -1,8 +1,8 @@
 -- Small worked examples of the definitions.
 use Rattle.std.specs.Prelude.{◌≡◌, ℕ, true, false, List, [], ◌∷◌, None, Some, replicate, refl}
-use Rattle.dt_selectors.specs.Names.{Names, same_text, place_of, with_text, with_name, is_full_for, is_name_byte, is_name}
+use Rattle.dt_selectors.specs.Names.{Names, same_text, position_of, with_text, with_name, is_full_for, is_name_byte, is_name}
 use Rattle.dt_selectors.specs.Rows.{selectors_from}
-use Rattle.dt_selectors.specs.Selectors.{Selector, arity_in, has_selector, place_selector, without_selector, add_cause, drop_cause}
+use Rattle.dt_selectors.specs.Selectors.{Selector, arity_in, has_selector, insert_selector, without_selector, add_cause, drop_cause}
 use Rattle.dt_selectors.specs.declared.selectors.SelectorFault.TheVariants.{SelectorExists, SelectorUnknown}
 
 -- three texts: "ab", "b" and "c"
@@ -33,17 +33,17 @@ abbrev pub two_names : Names
 two_names = with_name (with_name (record { limit = 2; texts = [] }) ab) b
 
 -- a name is numbered by its first appearance
-numbered_in_order : place_of b two_names.texts ≡ Some 1
+numbered_in_order : position_of b two_names.texts ≡ Some 1
 numbered_in_order = refl
 
-first_of_all : place_of ab two_names.texts ≡ Some 0
+first_of_all : position_of ab two_names.texts ≡ Some 0
 first_of_all = refl
 
-not_there : place_of c two_names.texts ≡ None
+not_there : position_of c two_names.texts ≡ None
 not_there = refl
 
 -- of a text that stood twice the place would be the first
-first_of_two : place_of b (ab ∷ b ∷ b ∷ []) ≡ Some 1
+first_of_two : position_of b (ab ∷ b ∷ b ∷ []) ≡ Some 1
 first_of_two = refl
 
 -- a new text goes last, and the limit stays
@@ -98,17 +98,17 @@ too_long_for_a_name = refl
 -- selector 7 with one argument and selector 9 with two
 abbrev pub two_selectors : List Selector
 two_selectors =
-    place_selector (record { number = 7; arity = 1 }) (place_selector (record { number = 9; arity = 2 }) [])
+    insert_selector (record { number = 7; arity = 1 }) (insert_selector (record { number = 9; arity = 2 }) [])
 
 -- the lower number stands first, whichever came first, and a selector that comes again is replaced
 in_order : two_selectors ≡ record { number = 7; arity = 1 } ∷ record { number = 9; arity = 2 } ∷ []
 in_order = refl
 
-goes_behind : place_selector (record { number = 8; arity = 4 }) two_selectors
+goes_behind : insert_selector (record { number = 8; arity = 4 }) two_selectors
     ≡ record { number = 7; arity = 1 } ∷ record { number = 8; arity = 4 } ∷ record { number = 9; arity = 2 } ∷ []
 goes_behind = refl
 
-replaced : place_selector (record { number = 9; arity = 3 }) two_selectors
+replaced : insert_selector (record { number = 9; arity = 3 }) two_selectors
     ≡ record { number = 7; arity = 1 } ∷ record { number = 9; arity = 3 } ∷ []
 replaced = refl
 

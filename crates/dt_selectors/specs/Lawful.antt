@@ -1,14 +1,14 @@
 -- What holds of all names and of all lists of selectors that the calls make.
 use Rattle.std.specs.Prelude.{◌≡◌, ℕ, ◌<◌, ◌≤◌, IsTrue, nat_lt, List, length, Some, slice_get, All}
 use Rattle.dt_graph.specs.InOrder.{Ascends}
-use Rattle.dt_selectors.specs.Names.{Names, is_name, place_of}
+use Rattle.dt_selectors.specs.Names.{Names, is_name, position_of}
 use Rattle.dt_selectors.specs.Selectors.{Selector}
 use Rattle.dt_selectors.specs.declared.limits.TheConstants.{NAMES, SELECTORS}
 
 -- each text's place is its number, so no text stands twice
 abbrev pub HasDistinctTexts : List (List ℕ) → Type 0
 HasDistinctTexts texts =
-    (number : ℕ) (text : List ℕ) → slice_get texts number ≡ Some text → place_of text texts ≡ Some number
+    (number : ℕ) (text : List ℕ) → slice_get texts number ≡ Some text → position_of text texts ≡ Some number
 
 -- lawful names: no text stands twice, each is a name, and there are no more than the limit
 pub record LawfulNames (names : Names) : Type 0 where

@@ -5,19 +5,19 @@ use Rattle.std.proofs.lemmas.List.Elements.{All-nil, All-cons, All-head}
 use Rattle.dt_selectors.specs.Examples.{ab, b, c, two_names, two_selectors}
 use Rattle.dt_selectors.specs.Lawful.{HasDistinctTexts, LawfulNames, AscendingSelectors, LawfulSelector, LawfulSelectors}
 use Rattle.dt_selectors.specs.Laws.{NumbersStay, NewNamesAreLast, KnownNamesStay, AddingSetsOneArity, DroppingUnsetsOneArity}
-use Rattle.dt_selectors.specs.Names.{place_of, is_name, with_name}
+use Rattle.dt_selectors.specs.Names.{position_of, is_name, with_name}
 use Rattle.dt_selectors.specs.Rows.{AritiesInRange}
-use Rattle.dt_selectors.specs.Selectors.{Selector, arity_in, place_selector, without_selector}
+use Rattle.dt_selectors.specs.Selectors.{Selector, arity_in, insert_selector, without_selector}
 
 -- each of two names has its place
 two_are_distinct : HasDistinctTexts two_names.texts
-two_are_distinct zero text is = let same : ab ≡ text = cc in subst (λ t. place_of t two_names.texts ≡ Some 0) same refl
-two_are_distinct (suc zero) text is = let same : b ≡ text = cc in subst (λ t. place_of t two_names.texts ≡ Some 1) same refl
+two_are_distinct zero text is = let same : ab ≡ text = cc in subst (λ t. position_of t two_names.texts ≡ Some 0) same refl
+two_are_distinct (suc zero) text is = let same : b ≡ text = cc in subst (λ t. position_of t two_names.texts ≡ Some 1) same refl
 two_are_distinct (suc (suc number)) text is = absurd (cc)
 
 -- a text that stands twice has one place
 twice_is_not_distinct : HasDistinctTexts (b ∷ b ∷ []) → ⊥
-twice_is_not_distinct distinct = let first : place_of b (b ∷ b ∷ []) ≡ Some 1 = distinct 1 b refl in cc
+twice_is_not_distinct distinct = let first : position_of b (b ∷ b ∷ []) ≡ Some 1 = distinct 1 b refl in cc
 
 -- two names of at most two are lawful; a limit of none, a third name and an empty text aren't
 two_are_lawful : LawfulNames two_names
@@ -90,17 +90,17 @@ a_row_of_five arities =
     let few : (0 < 5) × (5 ≤ 4) = All-head IsArityRow (Some 5) [] arities in omega (arith, few.1)
 
 -- each law at an example
-ab_keeps_its_number : NumbersStay → place_of ab (with_name two_names c).texts ≡ Some 0
+ab_keeps_its_number : NumbersStay → position_of ab (with_name two_names c).texts ≡ Some 0
 ab_keeps_its_number law = law two_names ab c 0 refl
 
-c_is_the_last : NewNamesAreLast → place_of c (with_name two_names c).texts ≡ Some 2
+c_is_the_last : NewNamesAreLast → position_of c (with_name two_names c).texts ≡ Some 2
 c_is_the_last law = (law two_names c refl).0
 
 b_changes_nothing : KnownNamesStay → with_name two_names b ≡ two_names
 b_changes_nothing law = law two_names b 1 refl
 
-eight_is_added : AddingSetsOneArity → (arity_in (place_selector (takes 8 4) two_selectors) 8 ≡ Some 4)
-    × (arity_in (place_selector (takes 8 4) two_selectors) 9 ≡ Some 2)
+eight_is_added : AddingSetsOneArity → (arity_in (insert_selector (takes 8 4) two_selectors) 8 ≡ Some 4)
+    × (arity_in (insert_selector (takes 8 4) two_selectors) 9 ≡ Some 2)
 eight_is_added law = (law two_selectors (takes 8 4) 8, law two_selectors (takes 8 4) 9)
 
 nine_is_dropped : DroppingUnsetsOneArity → (arity_in (without_selector two_selectors 9) 9 ≡ None)

@@ -22,9 +22,9 @@ abbrev pub is_name : List ℕ → Bool
 is_name text = nat_le 1 (length text) && (nat_le (length text) 64 && list_all is_name_byte text)
 
 -- the place of the text in the list, from 0, if it is there
-abbrev pub place_of : List ℕ → List (List ℕ) → Option ℕ
-place_of text [] = None
-place_of text (t ∷ texts) = if same_text t text then Some 0 else option_map (λ place. place + 1) (place_of text texts)
+abbrev pub position_of : List ℕ → List (List ℕ) → Option ℕ
+position_of text [] = None
+position_of text (t ∷ texts) = if same_text t text then Some 0 else option_map (λ place. place + 1) (position_of text texts)
 
 -- the texts with this one, last where it is new
 abbrev pub with_text : List ℕ → List (List ℕ) → List (List ℕ)
@@ -33,7 +33,7 @@ with_text text (t ∷ texts) = if same_text t text then t ∷ texts else t ∷ w
 
 -- whether the text is new, and there is no room for it
 abbrev pub is_full_for : Names → List ℕ → Bool
-is_full_for names text = is_none (place_of text names.texts) && nat_le names.limit (length names.texts)
+is_full_for names text = is_none (position_of text names.texts) && nat_le names.limit (length names.texts)
 
 -- the names with this one
 abbrev pub with_name : Names → List ℕ → Names

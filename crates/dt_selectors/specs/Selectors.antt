@@ -1,7 +1,7 @@
 -- The live selectors, each with how many arguments it takes.
 use Rattle.std.specs.Prelude.{◌==◌, ℕ, Bool, not, nat_lt, List, Option, is_some, find, filter}
 use Rattle.std.specs.Option.{option_map}
-use Rattle.dt_graph.specs.InOrder.{place}
+use Rattle.dt_graph.specs.InOrder.{insert_by_key}
 use Rattle.dt_graph.specs.Refusal.{cause_if}
 use Rattle.dt_selectors.specs.declared.selectors.SelectorFault.{SelectorFault}
 use Rattle.dt_selectors.specs.declared.selectors.SelectorFault.TheVariants.{SelectorExists, SelectorUnknown}
@@ -20,8 +20,8 @@ abbrev pub has_selector : List Selector → ℕ → Bool
 has_selector selectors selector = is_some (arity_in selectors selector)
 
 -- the selectors with one more, in ascending order; a selector that is there already is replaced
-abbrev pub place_selector : Selector → List Selector → List Selector
-place_selector selector selectors = place (λ s. s.number) nat_lt (λ a b. b == a) selector selectors
+abbrev pub insert_selector : Selector → List Selector → List Selector
+insert_selector selector selectors = insert_by_key (λ s. s.number) nat_lt (λ a b. b == a) selector selectors
 
 -- the selectors without this one
 abbrev pub without_selector : List Selector → ℕ → List Selector

@@ -1,5 +1,5 @@
 ghost use Rattle.std.specs.Prelude.{ℕ, ◌<◌, ◌≤◌, List, []};
-ghost use Rattle.dt_selectors.specs.Selectors.{Selector, place_selector, without_selector};
+ghost use Rattle.dt_selectors.specs.Selectors.{Selector, insert_selector, without_selector};
 ghost use Rattle.dt_selectors.specs.Lawful.{LawfulSelector, LawfulSelectors};
 ghost use Rattle.dt_selectors.specs.Laws.{AddingSetsOneArity, DroppingUnsetsOneArity, AddingIsUndone, DroppingIsUndone, KnownNamesStay, NewNamesAreLast, NumbersStay};
 ghost use Rattle.dt_selectors.specs.NameLists.{NumbersStayAlong};
@@ -12,7 +12,7 @@ use crate::selectors::Selectors;
 pub fn changes_keep_law()
     ensures empty { LawfulSelectors [] }
     ensures add { (selectors : List Selector) (selector : Selector) → LawfulSelectors selectors
-        → LawfulSelector selector → LawfulSelectors (place_selector selector selectors) }
+        → LawfulSelector selector → LawfulSelectors (insert_selector selector selectors) }
     ensures drop { (selectors : List Selector) (selector : ℕ) → LawfulSelectors selectors
         → LawfulSelectors (without_selector selectors selector) }
 {}

@@ -1,6 +1,6 @@
 ghost use Rattle.std.specs.Prelude.{◌≡◌, ◌↔◌, ℕ, List, ◌<◌, ◌≤◌, [], length, slice_get, option_copied, is_some, Ok, Err, Some, IfOk, IfSome, OnOk, OnErr, IsOk, IsErrOf, IsTrue};
 ghost use Rattle.std.specs.List.{list_all};
-ghost use Rattle.dt_selectors.specs.Names.{is_name_byte, is_name, place_of, is_full_for, with_name};
+ghost use Rattle.dt_selectors.specs.Names.{is_name_byte, is_name, position_of, is_full_for, with_name};
 ghost use Rattle.dt_selectors.specs.Lawful.{LawfulNames};
 
 use crate::limits::NAMES;
@@ -78,10 +78,10 @@ impl Names {
     pub fn law(&self)
         ensures lawful { LawfulNames self.now }
         ensures numbered { (number : ℕ) (text : List ℕ) → (slice_get self.now.texts number ≡ Some text)
-            ↔ (place_of text self.now.texts ≡ Some number) }
+            ↔ (position_of text self.now.texts ≡ Some number) }
         ensures are_names { (number : ℕ) (text : List ℕ) → slice_get self.now.texts number ≡ Some text
             → IsTrue (is_name text) }
-        ensures few { (number : ℕ) (text : List ℕ) → place_of text self.now.texts ≡ Some number
+        ensures few { (number : ℕ) (text : List ℕ) → position_of text self.now.texts ≡ Some number
             → (number < self.now.limit) × (self.now.limit ≤ NAMES) }
     {
         let _ = &self.texts;
@@ -103,15 +103,15 @@ impl Names {
     pub fn number(&mut self, text: &[u8]) -> Result<u32, NameFault>
         requires { IsTrue (is_name text.now) }
         ensures ok { OnOk result (self.new ≡ with_name self.old text.now) }
-        ensures place { IfOk result (λ number. place_of text.now self.new.texts ≡ Some number) }
+        ensures place { IfOk result (λ number. position_of text.now self.new.texts ≡ Some number) }
         ensures stored { IfOk result (λ number. slice_get self.new.texts number ≡ Some text.now) }
         ensures in_range { IfOk result (λ number. number < self.old.limit) }
         ensures full { IsErrOf result NameFault.NamesFull ↔ IsTrue (is_full_for self.old text.now) }
-        ensures known { IsTrue (is_some (place_of text.now self.old.texts)) → IsOk result }
+        ensures known { IsTrue (is_some (position_of text.now self.old.texts)) → IsOk result }
         ensures err { OnErr result (self.new ≡ self.old) }
     {
         self.law();
-        match self.place(text) {
+        match self.position(text) {
             Some(number) => Ok(number),
             None if self.texts.len() >= self.limit as usize => Err(NameFault::NamesFull),
             None => match self.append(text) {
@@ -125,7 +125,7 @@ impl Names {
     pub fn text(&self, number: u32) -> Option<&[u8]>
         ensures value { option_copied result ≡ slice_get self.now.texts number }
         ensures name { IfSome result (λ text. IsTrue (is_name text.now)) }
-        ensures place { IfSome result (λ text. place_of text.now self.now.texts ≡ Some number) }
+        ensures place { IfSome result (λ text. position_of text.now self.now.texts ≡ Some number) }
     {
         let text = self.texts.get_index(number as usize)?;
         Some(text.as_slice())
@@ -146,20 +146,20 @@ impl Names {
     }
 
     // The number of a known name.
-    fn place(&self, text: &[u8]) -> Option<u32>
-        ensures { result ≡ place_of text.now self.now.texts }
+    fn position(&self, text: &[u8]) -> Option<u32>
+        ensures { result ≡ position_of text.now self.now.texts }
     {
-        let place = self.texts.get_index_of(text)?;
-        Some(place as u32)
+        let position = self.texts.get_index_of(text)?;
+        Some(position as u32)
     }
 
     // The number of a new name, for which there is room.
     fn append(&mut self, text: &[u8]) -> Result<u32, NoMemory>
         requires name { IsTrue (is_name text.now) }
-        requires new { place_of text.now self.old.texts ≡ None }
+        requires new { position_of text.now self.old.texts ≡ None }
         requires room { length self.old.texts < self.old.limit }
         ensures ok { OnOk result (self.new ≡ with_name self.old text.now) }
-        ensures place { IfOk result (λ number. place_of text.now self.new.texts ≡ Some number) }
+        ensures place { IfOk result (λ number. position_of text.now self.new.texts ≡ Some number) }
         ensures in_range { IfOk result (λ number. number < self.old.limit) }
         ensures err { OnErr result (self.new ≡ self.old) }
     {

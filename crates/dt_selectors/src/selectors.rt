@@ -1,6 +1,6 @@
 ghost use Rattle.std.specs.Prelude.{◌≡◌, ◌==◌, ℕ, ◌<◌, ◌≤◌, [], map, count_by, Some, IfSome, IfOk, OnOk, OnErr};
 ghost use Rattle.dt_graph.specs.Refusal.{ok_unless};
-ghost use Rattle.dt_selectors.specs.Selectors.{arity_in, has_selector, place_selector, without_selector, add_cause, drop_cause};
+ghost use Rattle.dt_selectors.specs.Selectors.{arity_in, has_selector, insert_selector, without_selector, add_cause, drop_cause};
 ghost use Rattle.dt_selectors.specs.Lawful.{LawfulSelectors};
 
 use crate::limits::SELECTORS;
@@ -111,7 +111,7 @@ impl Selectors {
     /// [`SelectorExists`](SelectorFault::SelectorExists) exactly where it is live already; it keeps its arity then.
     pub fn add(&mut self, selector: SelNo, arity: Arity) -> Result<(), SelectorFault>
         ensures answer { result ≡ ok_unless (add_cause self.old selector) tt }
-        ensures ok { OnOk result (self.new ≡ place_selector (record { number = selector; arity = arity }) self.old) }
+        ensures ok { OnOk result (self.new ≡ insert_selector (record { number = selector; arity = arity }) self.old) }
         ensures err { OnErr result (self.new ≡ self.old) }
     {
         if self.arity(selector).is_some() {

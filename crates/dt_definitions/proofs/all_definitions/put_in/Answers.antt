@@ -3,7 +3,7 @@ use Rattle.std.specs.List.{list_any}
 use Rattle.std.proofs.lemmas.Result.{on_ok_weaker, on_err_weaker, IfOk-weaker}
 use Rattle.dt_definitions.specs.Program.{Definition, is_definition}
 use Rattle.dt_definitions.specs.SelectorLists.{definitions_from, body_in}
-use Rattle.dt_definitions.proofs.Lists.{place_row}
+use Rattle.dt_definitions.proofs.Lists.{insert_row}
 use Rattle.dt_definitions.proofs.DefinitionChanges.{same_row, room_grows, room_in, body_from_rows, some_body, none_body}
 use Rattle.dt_definitions.proofs.all_definitions.put_in.Goals as goal
 
@@ -11,7 +11,7 @@ pub returns-clause-ok : goal.returns-clause-ok
 returns-clause-ok c =
     let d : Definition = record { selector = c.args.selector; classes = c.args.classes; body = c.args.body } in
     on_ok_weaker c.put.result
-    (λ h. place_row c.args.rows.now.items 0 c.number.result d c.index_mut.result.now c.put.new.self
+    (λ h. insert_row c.args.rows.now.items 0 c.number.result d c.index_mut.result.now c.put.new.self
     (omega (arith, c.number.ensures.value)) (omega (arith, c.requires, c.number.ensures.in_range)) c.index_mut.ensures.value (h c.args.selector))
     c.put.ensures.ok
 

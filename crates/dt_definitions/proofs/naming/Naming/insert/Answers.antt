@@ -1,5 +1,5 @@
 use Rattle.std.proofs.Common.{arith, ◌∙◌}
-use Rattle.dt_graph.proofs.InOrder.{Ascends-place}
+use Rattle.dt_graph.proofs.InOrder.{Ascends-insert}
 use Rattle.dt_definitions.specs.Program.{is_key_before, is_same_key}
 use Rattle.dt_definitions.specs.Naming.{itself}
 use Rattle.dt_definitions.proofs.DefinitionOrder.{key_order}
@@ -11,7 +11,7 @@ invariant_of-self c =
     let keys = c.self.inside.keys.items in
     let found = rw (c.deref.ensures.value, c.classes.ensures.value) at c.in-Ok.ensures in
     rw (put_found itself is_key_before is_same_key key_order c.args.key.now keys c.in-Ok.place found)
-    (Ascends-place itself is_key_before is_same_key key_order c.args.key.now keys c.self.invariant)
+    (Ascends-insert itself is_key_before is_same_key key_order c.args.key.now keys c.self.invariant)
 
 pub insert-requires : goal.insert-requires
 insert-requires c =
@@ -28,7 +28,7 @@ invariant_of-self-else-is_err c =
     let absent = rw (c.deref.ensures.value, c.classes.ensures.value) at c.in-Err.ensures in
     let items = rw c.if-is_err.ensures.negation at c.insert.ensures.items in
     rw (items, put_absent itself is_key_before is_same_key key_order c.args.key.now keys c.in-Err.place absent)
-    (Ascends-place itself is_key_before is_same_key key_order c.args.key.now keys c.self.invariant)
+    (Ascends-insert itself is_key_before is_same_key key_order c.args.key.now keys c.self.invariant)
 
 pub returns-in-Ok-clause-keys : goal.returns-in-Ok-clause-keys
 returns-in-Ok-clause-keys c =

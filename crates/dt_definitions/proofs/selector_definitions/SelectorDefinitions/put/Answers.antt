@@ -1,5 +1,5 @@
 use Rattle.std.proofs.Common.{arith, ◌∙◌, ap}
-use Rattle.dt_graph.proofs.InOrder.{Ascends-place}
+use Rattle.dt_graph.proofs.InOrder.{Ascends-insert}
 use Rattle.dt_definitions.specs.Program.{are_classes_before}
 use Rattle.dt_definitions.specs.SelectorLists.{classes_at, are_same, with_selector}
 use Rattle.dt_definitions.specs.declared.defined.Defined.{Defined}
@@ -13,7 +13,7 @@ invariant_of-self c =
     let row = c.self.inside.defined.items in
     let found = rw (c.deref.ensures.value, c.classes.ensures.value) at c.in-Ok.ensures in
     rw (put_found classes_at are_classes_before are_same class_order new row c.in-Ok.place found)
-    (Ascends-place classes_at are_classes_before are_same class_order new row c.self.invariant)
+    (Ascends-insert classes_at are_classes_before are_same class_order new row c.self.invariant)
 
 pub insert-requires : goal.insert-requires
 insert-requires c =
@@ -30,7 +30,7 @@ invariant_of-self-in-Err c =
     let row = c.self.inside.defined.items in
     let absent = rw (c.deref.ensures.value, c.classes.ensures.value) at c.in-Err.ensures in
     rw (c.in_ok-insert-in-Err.ensures.items, put_absent classes_at are_classes_before are_same class_order new row c.in-Err.place absent)
-    (Ascends-place classes_at are_classes_before are_same class_order new row c.self.invariant)
+    (Ascends-insert classes_at are_classes_before are_same class_order new row c.self.invariant)
 
 pub returns-in-Ok-clause-ok : goal.returns-in-Ok-clause-ok
 returns-in-Ok-clause-ok c = λ s.

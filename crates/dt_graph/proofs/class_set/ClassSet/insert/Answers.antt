@@ -1,5 +1,5 @@
 use Rattle.std.proofs.Common.{◌∙◌, ap, arith}
-use Rattle.dt_graph.specs.Graph.{has_number, place_number}
+use Rattle.dt_graph.specs.Graph.{has_number, insert_number}
 use Rattle.dt_graph.specs.declared.limits.TheConstants.{CLASSES}
 use Rattle.dt_graph.proofs.LinkLists.{has_number-placed}
 use Rattle.dt_graph.proofs.ClassBits.{inserted}
@@ -8,7 +8,7 @@ use Rattle.dt_graph.proofs.class_set.ClassSet.insert.Goals as goal
 pub returns-clause-list : goal.returns-clause-list
 returns-clause-list c =
     inserted CLASSES c.self.inside.words c.args.self.now c.number-number.result c.self.view_is (omega (arith, c.self.told)) c.number-number.ensures.in_range
-    ∙ ap (λ n. place_number n c.args.self.now) c.number-number.ensures.value
+    ∙ ap (λ n. insert_number n c.args.self.now) c.number-number.ensures.value
 
 pub returns-clause-members : goal.returns-clause-members
 returns-clause-members c = λ n.

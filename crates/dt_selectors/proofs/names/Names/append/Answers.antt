@@ -1,11 +1,11 @@
 use Rattle.std.proofs.Common.{◌≡◌, ◌<◌, [], ◌∷◌, ◌++◌, map, length, None, Some, sym, ap, subst, ◌∙◌}
 use Rattle.std.specs.Box.{boxed_slice_items}
-use Rattle.dt_selectors.specs.Names.{place_of, with_name}
-use Rattle.dt_selectors.proofs.Texts.{texts_of-inserted, with_text-new, LawfulNames-last, place_of-last}
+use Rattle.dt_selectors.specs.Names.{position_of, with_name}
+use Rattle.dt_selectors.proofs.Texts.{texts_of-inserted, with_text-new, LawfulNames-last, position_of-last}
 use Rattle.dt_selectors.proofs.names.Names.append.Goals as goal
 
-is_new : (c : goal.In_ok-insert) → place_of c.args.text.now (map boxed_slice_items c.self.inside.texts.keys) ≡ None
-is_new c = ap (λ names. place_of c.args.text.now names.texts) c.self.view_is ∙ c.requires.new
+is_new : (c : goal.In_ok-insert) → position_of c.args.text.now (map boxed_slice_items c.self.inside.texts.keys) ≡ None
+is_new c = ap (λ names. position_of c.args.text.now names.texts) c.self.view_is ∙ c.requires.new
 
 put : (c : goal.In_ok-insert) → map boxed_slice_items c.insert.new.self.keys ≡ map boxed_slice_items c.self.inside.texts.keys ++ c.args.text.now ∷ []
 put c =
@@ -25,5 +25,5 @@ returns-clause-ok c =
 
 pub returns-clause-place : goal.returns-clause-place
 returns-clause-place c =
-    rw (put c) (place_of-last c.args.text.now (map boxed_slice_items c.self.inside.texts.keys) (is_new c)
+    rw (put c) (position_of-last c.args.text.now (map boxed_slice_items c.self.inside.texts.keys) (is_new c)
     ∙ ap Some (ap (λ names. length names.texts) c.self.view_is ∙ sym c.len-number.ensures))

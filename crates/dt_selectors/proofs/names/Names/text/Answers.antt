@@ -1,7 +1,7 @@
 use Rattle.std.proofs.Common.{◌≡◌, map, slice_get, option_map, Some, IsTrue, ap, sym, subst, ◌∙◌}
 use Rattle.std.proofs.lemmas.Option.{slice_get-map}
 use Rattle.std.specs.Box.{boxed_slice_items}
-use Rattle.dt_selectors.specs.Names.{is_name, place_of}
+use Rattle.dt_selectors.specs.Names.{is_name, position_of}
 use Rattle.dt_selectors.proofs.Texts.{All-slice_get}
 use Rattle.dt_selectors.proofs.names.Names.text.Goals as goal
 
@@ -18,5 +18,5 @@ returns-clause-name c =
 
 pub returns-clause-place : goal.returns-clause-place
 returns-clause-place c =
-    subst (λ names. place_of c.as_slice.result.now names.texts ≡ Some c.args.number) c.self.view_is
+    subst (λ names. position_of c.as_slice.result.now names.texts ≡ Some c.args.number) c.self.view_is
     (c.self.invariant.distinct c.args.number c.as_slice.result.now (stands c))
