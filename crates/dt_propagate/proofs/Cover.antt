@@ -1,5 +1,5 @@
 -- By marks that tell, each class of a query whose cells differ goes on from those before it.
-use Rattle.std.proofs.Common.{◌≡◌, ◌==◌, ℕ, zero, suc, ◌+◌, ◌<◌, ◌≤◌, Bool, true, false, ◌&&◌, ◌||◌, IsTrue, List, [], ◌∷◌, ◌++◌, length, ⊎_elim, refl, sym, ap, subst, ◌∙◌, arith, eqb-true, eq-eqb}
+use Rattle.std.proofs.Common.{filter, ◌≡◌, ◌==◌, ℕ, zero, suc, ◌+◌, ◌<◌, ◌≤◌, Bool, true, false, ◌&&◌, ◌||◌, IsTrue, List, [], ◌∷◌, ◌++◌, length, ⊎_elim, refl, sym, ap, subst, ◌∙◌, arith, eqb-true, eq-eqb}
 use Rattle.std.proofs.lemmas.Bool.{false≢true, and_parts, and_from, or_cases, or_left, or_right}
 use Rattle.dt_graph.specs.Graph.{Link, has_number}
 use Rattle.dt_graph.specs.Below.{is_below}
@@ -14,7 +14,7 @@ use Rattle.dt_scratch.specs.Query.{Query}
 use Rattle.dt_scratch.specs.Resolve.{are_below, applicable}
 use Rattle.dt_propagate.specs.FinerMarks.{is_marked, are_named, NamesAll, MarksTell, is_marked_candidate}
 use Rattle.dt_propagate.specs.Marks.{has_at, names_at, is_named_at, DifferNear, NearsTell}
-use Rattle.dt_propagate.specs.Walk.{is_any_above, goes_on, goes_on_defined, goes_on_redefined, goes_on_in, GoesThroughAll}
+use Rattle.dt_propagate.specs.Walk.{is_any_above, goes_on, goes_on_defined, goes_on_redefined, goes_on_in, GoesThroughAll, goes_next}
 use Rattle.dt_propagate.specs.declared.near.Near.{Near}
 use Rattle.dt_propagate.proofs.Counts.{own}
 use Rattle.dt_propagate.proofs.FinerMarks.{finer_marks_serve}
@@ -242,3 +242,21 @@ module _ (old new : Program) (selector : ℕ) (keys : List DefinitionKey) (edite
         (candidate_goes new differ.new_lawful (above_new 0 nears tell) prefix class rest t))
         (λ none_new. absurd (differs (finer_marks_serve (marked_at nears) named keys old new differ.old_lawful differ.new_lawful
         differ.definitions marks_tell query names_old names_new none_old none_new))))
+
+-- ---- the keys of the selector are enough
+
+own_redefined : (program : Program) (selector : ℕ) (keys : List DefinitionKey) (nears : List Near) (prefix : List ℕ) (class : ℕ) →
+    goes_on_redefined program selector (filter (λ key. key.selector == selector) keys) nears prefix class
+    ≡ goes_on_redefined program selector keys nears prefix class
+own_redefined program selector [] nears prefix class = refl
+own_redefined program selector (key ∷ keys) nears prefix class =
+    let rest = own_redefined program selector keys nears prefix class in
+    by_cases (key.selector == selector)
+    (λ t. rw (t, t, rest) refl)
+    (λ f. rw f rest)
+
+pub goes_through_own : (old new : Program) (selector : ℕ) (all chosen : List DefinitionKey) (nears : List Near) →
+    chosen ≡ filter (λ key. key.selector == selector) all → GoesThroughAll old new selector all nears → GoesThroughAll old new selector chosen nears
+goes_through_own old new selector all chosen nears is whole prefix class rest differs =
+    subst (λ keys. IsTrue (goes_next old new selector keys nears prefix class)) (sym is)
+    (rw (own_redefined old selector all nears prefix class, own_redefined new selector all nears prefix class) (whole prefix class rest differs))

@@ -1,5 +1,5 @@
 -- Which classes are marked at a position, so that a query with no marked class keeps its cell but for definitions that differ.
-use Rattle.std.specs.Prelude.{◌≡◌, ◌==◌, ℕ, zero, suc, Bool, false, true, ◌&&◌, ◌||◌, not, IsTrue, List, [], ◌∷◌}
+use Rattle.std.specs.Prelude.{◌≡◌, ◌==◌, ℕ, zero, suc, Bool, false, true, ◌&&◌, ◌||◌, not, IsTrue, List, [], ◌∷◌, filter}
 use Rattle.std.specs.List.{list_any}
 use Rattle.dt_graph.specs.Graph.{Link, has_number}
 use Rattle.dt_graph.specs.Below.{is_below}
@@ -55,3 +55,9 @@ abbrev pub NearsTell : Program → Program → ℕ → ℕ → List Near → Typ
 NearsTell old new selector position [] = Unit {0}
 NearsTell old new selector position (near ∷ nears) =
     NearTells old new selector position near × NearsTell old new selector (suc position) nears
+
+-- of the keys at which the definitions differ these are the selector's
+pub record HasOwnKeys (old new : Program) (selector : ℕ) (own : List DefinitionKey) (edited : List ℕ) : Type 0 where
+  pub all : List DefinitionKey
+  pub differ : DifferNear old new all edited
+  pub own_is : own ≡ filter (λ key. key.selector == selector) all

@@ -1,8 +1,8 @@
-ghost use Rattle.std.specs.Prelude.{◌≡◌, ℕ, ◌+◌, ◌<◌, ◌≤◌, ◌||◌, ◌++◌, [], length, OnOk};
+ghost use Rattle.std.specs.Prelude.{◌≡◌, ℕ, ◌+◌, ◌<◌, ◌≤◌, ◌||◌, ◌==◌, ◌++◌, [], length, filter, IfOk, OnOk};
 ghost use Rattle.dt_graph.specs.Graph.{has_number};
 ghost use Rattle.dt_propagate.specs.Counted.{CountsOn};
 ghost use Rattle.dt_propagate.specs.GoneThrough.{all_arities, told_after, told_of, told_of_all};
-ghost use Rattle.dt_propagate.specs.Marks.{DifferNear};
+ghost use Rattle.dt_propagate.specs.Marks.{DifferNear, HasOwnKeys};
 ghost use Rattle.dt_propagate.specs.Touched.{TouchAll, takes};
 ghost use Rattle.dt_propagate.specs.Walk.{GoesThroughAll, goes_next, goes_on_in, told_change};
 
@@ -14,6 +14,7 @@ use arrayvec::ArrayVec;
 use dt_definitions::{DefinitionKey, Program};
 use dt_graph::{ClassNo, ClassSet, NoMemory, Steps};
 use dt_selectors::{SELECTORS, SelNo};
+use std::alloc::Global;
 use std::sync::ledger::Ledger;
 
 // The classes that go on from the prefix in the program are in the set from now on.
@@ -115,7 +116,7 @@ fn push_with_arity<L: Ledger>(
     steps: &mut Steps<L>,
     out: &mut Found,
 ) -> Result<(), NoMemory>
-    requires near { DifferNear old.now new.now keys.now edited.now }
+    requires own { HasOwnKeys old.now new.now selector keys.now edited.now }
     requires some { 0 < arity }
     requires few { arity ≤ 4 }
     ensures told { OnOk result (out.new.changes.items ≡ out.old.changes.items
@@ -141,6 +142,43 @@ fn push_with_arity<L: Ledger>(
     )
 }
 
+// What is told of the selector's queries goes to the end. The keys are its own.
+fn push_arities<L: Ledger>(
+    old: &Program,
+    new: &Program,
+    selector: SelNo,
+    keys: &[DefinitionKey],
+    edited: &ClassSet,
+    steps: &mut Steps<L>,
+    out: &mut Found,
+) -> Result<(), NoMemory>
+    requires own { HasOwnKeys old.now new.now selector keys.now edited.now }
+    ensures told { OnOk result (out.new.changes.items ≡ out.old.changes.items ++ told_of (told_change old.now new.now) all_arities selector) }
+    ensures counted { OnOk result (CountsOn steps.old steps.new out.old.counted out.new.counted) }
+{
+    for arity in 1..5 {
+        push_with_arity(old, new, selector, keys, edited, arity, steps, out)?;
+    }
+    Ok(())
+}
+
+// Those of the keys that are of the selector.
+fn keys_of(
+    alloc: Global,
+    keys: &[DefinitionKey],
+    selector: SelNo,
+) -> Result<Vec<DefinitionKey>, NoMemory>
+    ensures { IfOk result (λ own. own.items ≡ filter (λ key. key.selector == selector) keys.now) }
+{
+    let mut own = Vec::new(alloc);
+    for key in keys {
+        if key.selector == selector {
+            own.push(*key)?;
+        }
+    }
+    Ok(own)
+}
+
 // What is told of the selector's queries goes to the end.
 fn push_of<L: Ledger>(
     old: &Program,
@@ -152,13 +190,12 @@ fn push_of<L: Ledger>(
     out: &mut Found,
 ) -> Result<(), NoMemory>
     requires near { DifferNear old.now new.now keys.now edited.now }
-    ensures told { OnOk result (out.new.changes.items ≡ out.old.changes.items ++ told_of (told_change old.now new.now) all_arities selector) }
+    ensures told { OnOk result (out.new.changes.items ≡ out.old.changes.items
+        ++ told_of (told_change old.now new.now) all_arities selector) }
     ensures counted { OnOk result (CountsOn steps.old steps.new out.old.counted out.new.counted) }
 {
-    for arity in 1..5 {
-        push_with_arity(old, new, selector, keys, edited, arity, steps, out)?;
-    }
-    Ok(())
+    let own = keys_of(*out.changes.allocator(), keys, selector)?;
+    push_arities(old, new, selector, &own, edited, steps, out)
 }
 
 // The same, where the selector's flag is set.

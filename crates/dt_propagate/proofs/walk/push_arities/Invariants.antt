@@ -4,7 +4,7 @@ use Rattle.dt_propagate.specs.Boxes.{in_turn}
 use Rattle.dt_propagate.specs.Counted.{CountsOn}
 use Rattle.dt_propagate.specs.GoneThrough.{told_after}
 use Rattle.dt_propagate.specs.Walk.{told_change}
-use Rattle.dt_propagate.proofs.walk.push_of.Given as goal
+use Rattle.dt_propagate.proofs.walk.push_arities.Given as goal
 
 abbrev pub invariant-loop-arity : goal.invariant-loop-arity
 invariant-loop-arity g l = record {

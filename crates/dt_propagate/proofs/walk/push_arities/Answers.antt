@@ -5,7 +5,7 @@ use Rattle.dt_propagate.specs.GoneThrough.{told_after}
 use Rattle.dt_propagate.specs.Walk.{told_change}
 use Rattle.dt_propagate.proofs.Counted.{counts_further}
 use Rattle.dt_propagate.proofs.Touching.{turned, arities_are}
-use Rattle.dt_propagate.proofs.walk.push_of.Goals as goal
+use Rattle.dt_propagate.proofs.walk.push_arities.Goals as goal
 
 pub loop-arity-preserved : goal.loop-arity-preserved
 loop-arity-preserved g c =
