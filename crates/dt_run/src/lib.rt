@@ -9,6 +9,7 @@ mod running;
 mod status;
 mod turnstile;
 
+pub use dt_words::{ArgWords, Command, Limits, Table, WordsFault, read_words};
 pub use laws::logs_are_determined_by_their_texts;
 pub use log::{CallLine, EditLine, Log, PartLog, PhaseLog, Stamped};
 pub use perform::perform_script;
