@@ -26,7 +26,7 @@ pub enum Reply {
     Answered { answer: Answer },
 }
 
-/// A cell that changes: a query, and the answer that it has from now on. No call answers one yet.
+/// A cell that changes: a query, and the answer that it has from now on.
 #[derive(Clone, Copy, Debug, PartialEq, Eq)]
 pub struct Change {
     /// The query.
