@@ -37,18 +37,28 @@ int posix_memalign(void **p, size_t a, size_t n) { REAL(posix_memalign); return 
 C
 cc -shared -fPIC -O1 -o "$folder/refuse.so" "$folder/refuse.c" -ldl
 program=crates/dispatch_cli/out/dispatch_cli
-number=1
-refused=0
-while :; do
-    status=0
-    REFUSE=$number LD_PRELOAD=$folder/refuse.so "$program" run --table sti <"$script" >"$folder/text" || status=$?
-    case $status in
-        0) cmp -s "$folder/text" crates/dispatch_cli/stdout ;;
-        6) [ ! -s "$folder/text" ] || [ "$(cat "$folder/text")" = "fault memory" ] ;;
-        *) false ;;
-    esac || { echo "allocation number $number refused: status $status is wrong"; exit 1; }
-    [ "$status" = 6 ] && refused=$((refused + 1)) && last=$number
-    [ "$number" -ge $((${last:-0} + 200)) ] && break
-    number=$((number + 1))
+
+# refuses SCRIPT WANTED_TEXT
+refuses() {
+    number=1
+    refused=0
+    last=0
+    while :; do
+        status=0
+        REFUSE=$number LD_PRELOAD=$folder/refuse.so "$program" run --table sti <"$1" >"$folder/text" || status=$?
+        case $status in
+            0) cmp -s "$folder/text" "$2" ;;
+            6) [ ! -s "$folder/text" ] || [ "$(cat "$folder/text")" = "fault memory" ] ;;
+            *) false ;;
+        esac || { echo "$1, allocation number $number refused: status $status is wrong"; exit 1; }
+        [ "$status" = 6 ] && refused=$((refused + 1)) && last=$number
+        [ "$number" -ge $((last + 200)) ] && break
+        number=$((number + 1))
+    done
+    echo "$1: of $number allocations tried, $refused refusals ended with status 6, the last that of number $last; all others with status 0 and the whole text"
+}
+
+refuses "$script" crates/dispatch_cli/stdout
+for name in batches pins diamond refusals_of_classes; do
+    refuses "tests/scripts/$name.dispatch" "tests/scripts/$name.out"
 done
-echo "memory: of $number allocations tried, $refused refusals ended with status 6, the last that of number ${last:-0}; all others with status 0 and the whole text"
