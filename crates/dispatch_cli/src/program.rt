@@ -26,7 +26,8 @@ pub fn exit_status<H: Threads + Sync, S: Source, K: Sink>(
     sink: &mut K,
 ) -> u8
     // How it ends: as a run does; or memory was wanted for the words, and nothing was read or put.
-    ensures ends { EndsAs (words_in (λ all. drop 1 (map string_bytes (into_iter_items all))) args) result
+    ensures ends { EndsAs (words_in (λ all. drop 1 (map string_bytes (into_iter_items all))) args)
+        ((source.new ≡ source.old) × (sink.new ≡ sink.old)) result
         (outside (S.left source.old) (S.faults source.old) (K.taken sink.old) (K.faults sink.old))
         (outside (S.left source.new) (S.faults source.new) (K.taken sink.new) (K.faults sink.new)) }
 

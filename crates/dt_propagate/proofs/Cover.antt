@@ -9,7 +9,7 @@ use Rattle.dt_definitions.specs.Program.{Definition, Program, definitions_of, is
 use Rattle.dt_definitions.specs.Lawful.{Lawful}
 use Rattle.dt_definitions.specs.Differing.{is_at_any}
 use Rattle.dt_definitions.specs.declared.definition_key.DefinitionKey.{DefinitionKey}
-use Rattle.dt_definitions.proofs.ClassOrder.{same-equal}
+use Rattle.dt_graph.proofs.SameLists.{same_list_equal}
 use Rattle.dt_scratch.specs.Query.{Query}
 use Rattle.dt_scratch.specs.Resolve.{are_below, applicable}
 use Rattle.dt_propagate.specs.FinerMarks.{is_marked, are_named, NamesAll, MarksTell, is_marked_candidate}
@@ -223,7 +223,7 @@ module _ (old new : Program) (selector : ℕ) (keys : List DefinitionKey) (edite
         let k = In-from_any (λ key. is_definition key.selector key.classes d.0) keys at in
         let same = and_parts (d.0.selector == k.0.selector) (same_classes d.0.classes k.0.classes) k.2 in
         let of_selector : k.0.selector ≡ selector = sym (eqb-true d.0.selector k.0.selector same.0) ∙ eqb-true d.0.selector selector both.0 in
-        let equal : d.0.classes ≡ k.0.classes = same-equal d.0.classes k.0.classes same.1 in
+        let equal : d.0.classes ≡ k.0.classes = same_list_equal d.0.classes k.0.classes same.1 in
         or_right (goes_on_defined program selector nears prefix class) (goes_on_redefined program selector keys nears prefix class)
         (any_from_In (λ key. (key.selector == selector) && goes_on links nears true key.classes prefix class) keys k.0 k.1
         (and_from (k.0.selector == selector) (goes_on links nears true k.0.classes prefix class) (eq-eqb k.0.selector selector of_selector)

@@ -75,10 +75,10 @@ RunEnding words NoMemory handed old new = NoReadFailed old new × EndsWith hande
 RunEnding words status handed old new =
     (readers : ℕ) × (readers_of words ≡ Some readers) × Ending readers status handed old new
 
--- the program's number: of a run that ended so, or memory was wanted before anything was read or put
-abbrev pub EndsAs : List (List ℕ) → ℕ → Outside → Outside → Type 0
-EndsAs words number old new = (status : Status) × (number ≡ number_of status)
-    × (((handed : Option Log) × RunEnding words status handed old new) ⊎ ((status ≡ NoMemory) × (new ≡ old)))
+-- the program's number: of a run that ended so, or memory was wanted while nothing had been done
+abbrev pub EndsAs : List (List ℕ) → Type 0 → ℕ → Outside → Outside → Type 0
+EndsAs words NothingDone number old new = (status : Status) × (number ≡ number_of status)
+    × (((handed : Option Log) × RunEnding words status handed old new) ⊎ ((status ≡ NoMemory) × NothingDone))
 
 -- how performing the script that the bytes are, and printing its log, ends
 abbrev pub Performed : ℕ → List ℕ → Status → Option Log → Outside → Outside → Type 0

@@ -3,7 +3,7 @@ use Rattle.std.specs.Prelude.{ℕ, List, [], ◌∷◌, ◌++◌, codes, decimal
 use Rattle.dt_script.specs.declared.script_fault.ScriptFault.{ScriptFault}
 use Rattle.dt_script.specs.declared.script_fault.ScriptFault.TheVariants.{ReadFault, TooLong, NoHeader, Malformed, NamesFull, NoEnd, NoMemory}
 
--- what is told where the words aren't a command
+-- what is told where the words ask for no run
 abbrev pub usage_text : List ℕ
 usage_text = codes "usage: dispatch run --table sti|colour|row|mrd [--readers R] [--pages P] [--limit L]\n       dispatch gen --table sti|colour|row|mrd --number N --classes C --selectors S\n"
 

@@ -1,5 +1,6 @@
 -- To be read first, in this order: a log, its shape for a script, its versions, its edits, the lines of each caller, its
--- calls, and so what an outcome is; the words and the text of a log, what a sink took of it, and what it tells of the log.
+-- calls, and so what an outcome is; the words and the text of a log, what a sink took of it, and what it tells of the log;
+-- then how a run ends.
 pub mod Log
 pub mod LogShape
 pub mod Versions

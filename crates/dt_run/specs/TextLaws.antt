@@ -1,12 +1,14 @@
 -- Laws of the texts of logs.
-use Rattle.std.specs.Prelude.{◌≡◌, ◌^◌, Bool, true, nat_lt, IsTrue, is_some}
+use Rattle.std.specs.Prelude.{◌≡◌, ℕ, ◌^◌, Bool, true, nat_lt, IsTrue, is_some}
 use Rattle.std.specs.List.{list_all}
 use Rattle.dt_script.specs.NameBook.{NameBook}
 use Rattle.dt_script.specs.LawfulBook.{LawfulBook}
+use Rattle.dt_script.specs.Named.{HasNames}
 use Rattle.dt_script.specs.Script.{Script}
 use Rattle.dt_script.specs.Word.{Word, Number}
 use Rattle.dt_run.specs.Log.{Log}
 use Rattle.dt_run.specs.LogShape.{HasShape}
+use Rattle.dt_run.specs.Outcome.{Outcome}
 use Rattle.dt_run.specs.Text.{lines_of, text_of, is_named}
 use Rattle.dt_run.specs.Shape.{SameShape}
 
@@ -31,3 +33,8 @@ OneShapeOfScript = (script : Script) (a b : Log) → HasShape script.phases a.ph
 abbrev pub DeterminedByText : Type 0
 DeterminedByText = (book : NameBook) (a b : Log) → LawfulBook book → IsTrue (is_in_range a) → IsTrue (is_in_range b)
     → IsTrue (is_named book a) → IsTrue (is_named book b) → SameShape a b → text_of book a ≡ text_of book b → a ≡ b
+
+-- In the log of an outcome every number has a name, where the numbers of the script's edits do.
+abbrev pub OutcomeIsNamed : Type 0
+OutcomeIsNamed = (script : Script) (limit : ℕ) (log : Log) → HasNames script → Outcome script limit log
+    → IsTrue (is_named script.names log)

@@ -3,6 +3,7 @@
 
 mod laws;
 mod log;
+pub mod outside;
 mod perform;
 mod print;
 mod running;
@@ -10,7 +11,7 @@ mod status;
 mod turnstile;
 
 pub use dt_words::{ArgWords, Command, Limits, Table, WordsFault, read_words};
-pub use laws::logs_are_determined_by_their_texts;
+pub use laws::{logs_are_determined_by_their_texts, outcomes_are_named};
 pub use log::{CallLine, EditLine, Log, PartLog, PhaseLog, Stamped};
 pub use perform::perform_script;
 pub use print::print_log;

@@ -36,7 +36,7 @@ pub struct Ran {
     pub log: Option<Log>,
 }
 
-// What is told where the words aren't a command.
+// What is told where the words ask for no run.
 const USAGE: &str =
     "usage: dispatch run --table sti|colour|row|mrd [--readers R] [--pages P] [--limit L]\n       dispatch gen --table sti|colour|row|mrd --number N --classes C --selectors S\n";
 
@@ -146,7 +146,8 @@ fn run_source<S: Source, K: Sink, T: Turnstile>(
 }
 
 /// Runs the program: reads the words, then the source to its end, performs the script, and prints the log to the sink.
-/// Whichever table the words name, each call is answered by look-up from scratch, after the edits of its phase.
+/// Whichever table the words name, each call is answered by look-up from scratch: after the edits of its phase, or at the
+/// version of its caller's pin.
 ///
 /// The status tells how it ended. [`Status::Done`]: the bytes are a script for as many readers as the words say, the log
 /// is an outcome of it, and the sink took its text. [`Status::Usage`]: exactly where the words ask for no run and memory
@@ -154,7 +155,7 @@ fn run_source<S: Source, K: Sink, T: Turnstile>(
 /// or its bytes to the end have a fault, which is told. [`Status::ReadFault`]: the source failed.
 /// [`Status::WriteFault`]: the sink failed while the log was printed, and took a prefix of its text.
 /// [`Status::NoMemory`]: memory was wanted. Where the status is another than done or a write fault, the sink took the
-/// text of the fault, or a prefix of it where the sink failed. It starts no thread.
+/// text of the fault or the usage text, or a prefix of it where the sink failed. It starts no thread.
 ///
 /// The source's count of faults is one more at a read fault, and else it stands as it was; the sink's is as it was at done
 /// and one more at a write fault. Nothing is read after a fault, after the end, or after one byte more than a script may

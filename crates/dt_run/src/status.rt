@@ -6,7 +6,7 @@ ghost use Rattle.dt_run.specs.Status.{number_of};
 pub enum Status {
     /// The script was performed, and its log was printed whole.
     Done,
-    /// The words aren't a command. The source wasn't read.
+    /// The words ask for no run. The source wasn't read.
     Usage,
     /// The source's bytes aren't a script.
     Script,

@@ -12,6 +12,7 @@ use Rattle.dt_script.specs.Laws.{OneMeaning, StaysLawful}
 use Rattle.dt_script.specs.LawfulBook.{LawfulBook}
 use Rattle.dt_script.specs.Line.{LineOf}
 use Rattle.dt_script.specs.Lines.{is_silent}
+use Rattle.dt_script.specs.Named.{ReadHasLawfulBook}
 use Rattle.dt_script.specs.NameBook.{NameBook, empty_book, is_within_limits}
 use Rattle.dt_script.specs.OneAnswer.{OneScript, OneFault, ScriptsHaveNoFault}
 use Rattle.dt_script.specs.Place.{may_stand, has_ended}
@@ -226,6 +227,10 @@ module _ (one_meaning : OneMeaning) (stays_lawful : StaysLawful) (empty_lawful :
       let reading = one_reading readers (reverse second.texts) first.book second.book first.past second.past
       (subst (λ texts. WereRead readers (reverse texts) first.book first.past) same first.were_read) second.were_read in
       first.built ∙ ap (λ names. script_of names (reverse first.past)) reading.0 ∙ ap (λ lines. script_of second.book (reverse lines)) reading.1 ∙ sym second.built
+
+  pub read_has_lawful_book : ReadHasLawfulBook
+  read_has_lawful_book readers bytes script is =
+      subst (λ (s : Script). LawfulBook s.names) (sym is.built) (lawful readers (reverse is.texts) is.book is.past is.were_read)
 
   ended_once : (readers : ℕ) (bytes : List ℕ) (script : Script) → IsScriptOf readers bytes script → HasNoEnd readers bytes → ⊥
   ended_once readers bytes script is no_end =

@@ -23,7 +23,7 @@ header_line = record {
   in_range = refl;
 }
 
--- a new class above a known one gets the next number
+-- a new class below a known one gets the next number
 class_below : LineOf (codes "class B < A") (classes_alone (codes "A" ∷ [])) (AddClass 1 (0 ∷ [])) (classes_alone (codes "A" ∷ codes "B" ∷ []))
 class_below = record {
   texts = codes "class" ∷ codes "B" ∷ codes "<" ∷ codes "A" ∷ [];

@@ -1,12 +1,14 @@
--- That numbers have names: the names of a script are those of all its lines.
-use Rattle.std.specs.Prelude.{Bool, IsTrue, is_some, All}
+-- That the numbers in the edits of a script have names.
+use Rattle.std.specs.Prelude.{ℕ, Bool, IsTrue, List, is_some, All}
 use Rattle.std.specs.List.{list_all}
 use Rattle.dt_definitions.specs.declared.edit.Edit.{Edit}
 use Rattle.dt_definitions.specs.declared.edit.Edit.TheVariants as edit
+use Rattle.dt_script.specs.LawfulBook.{LawfulBook}
 use Rattle.dt_script.specs.NameBook.{NameBook}
 use Rattle.dt_script.specs.Word.{Word, text_of_word}
 use Rattle.dt_script.specs.Line.{words_of}
 use Rattle.dt_script.specs.Script.{Script}
+use Rattle.dt_script.specs.ScriptOf.{IsScriptOf}
 use Rattle.dt_script.specs.declared.line.Line.{Line}
 use Rattle.dt_script.specs.declared.line.Line.TheVariants.{AddClass, DropClass, Link, Unlink, AddSelector, DropSelector, Define, Undefine}
 
@@ -32,3 +34,11 @@ is_edit_named book edit = list_all (has_text book) (words_of (line_of edit))
 -- each number in the edits of a script is that of a name
 abbrev pub HasNames : Script → Type 0
 HasNames script = All (λ phase. All (All (λ edit. IsTrue (is_edit_named script.names edit))) phase.edits) script.phases
+
+-- Each number in the edits of a script that was read is that of a name.
+abbrev pub ReadHasNames : Type 0
+ReadHasNames = (readers : ℕ) (bytes : List ℕ) (script : Script) → IsScriptOf readers bytes script → HasNames script
+
+-- And no two names of its book are the same.
+abbrev pub ReadHasLawfulBook : Type 0
+ReadHasLawfulBook = (readers : ℕ) (bytes : List ℕ) (script : Script) → IsScriptOf readers bytes script → LawfulBook script.names

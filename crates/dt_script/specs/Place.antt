@@ -39,7 +39,7 @@ is_pinned caller (Pin ∷ past) = if is_caller caller (caller_after past) then t
 is_pinned caller (Unpin ∷ past) = if is_caller caller (caller_after past) then false else is_pinned caller past
 is_pinned caller (_ ∷ past) = is_pinned caller past
 
--- whether a caller's lines follow, and that caller has a pin, or has none
+-- whether a caller's lines follow, and that caller has no pin, or has one
 abbrev pub may_pin : List Line → Option ℕ → Bool
 may_pin past None = false
 may_pin past (Some caller) = not (is_pinned caller past)

@@ -34,11 +34,11 @@ pub use laws::{
     lines_have_one_spelling, names_keep_their_spellings, spellings_have_one_line,
     written_lines_are_read_again,
 };
-pub use limits::SCRIPT_BYTES;
+pub use limits::{CALLERS, SCRIPT_BYTES};
 pub use line::{CallerLine, Line};
 pub use line_read::{LineFault, read_line};
 pub use name_book::NameBook;
-pub use one_answer::bytes_have_one_answer;
+pub use one_answer::{bytes_have_one_answer, scripts_read_are_named};
 pub use playable::scripts_read_are_playable;
 pub use script::{Part, Phase, Script};
 pub use script_fault::ScriptFault;

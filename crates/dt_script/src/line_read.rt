@@ -37,7 +37,8 @@ pub enum LineFault {
 ///
 /// # Errors
 ///
-/// [`LineFault::Malformed`] exactly where no line is spelled so; the names are as they were then.
+/// [`LineFault::Malformed`] exactly where the bytes mean something and no line is spelled so; the names are as
+/// they were then.
 /// [`LineFault::NamesFull`] exactly where there is such a line and its new names are more than there may be. After it, and
 /// after [`LineFault::NoMemory`], there may be names more.
 pub fn read_line(

@@ -1,3 +1,4 @@
+ghost use Rattle.dt_script.specs.Named.{ReadHasNames, ReadHasLawfulBook};
 ghost use Rattle.dt_script.specs.OneAnswer.{OneScript, OneFault, ScriptsHaveNoFault};
 
 use dt_selectors::names_keep_their_numbers;
@@ -8,6 +9,15 @@ pub fn bytes_have_one_answer()
     ensures script { OneScript }
     ensures fault { OneFault }
     ensures either { ScriptsHaveNoFault }
+{
+    names_keep_their_numbers();
+}
+
+/// The numbers in the edits of a script that was read are those of names, and no two names of one kind are the same. It
+/// does nothing: its contract is the law.
+pub fn scripts_read_are_named()
+    ensures names { ReadHasNames }
+    ensures book { ReadHasLawfulBook }
 {
     names_keep_their_numbers();
 }

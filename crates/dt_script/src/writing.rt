@@ -7,8 +7,8 @@ use crate::name_book::NameBook;
 use dt_definitions::{Arity, BodyNo, ClassNo, NoMemory, SelNo};
 use itoa::Buffer;
 
-/// Puts the one spelling of the line at the end of the text, without a line feed. Each number of the line has a name, and
-/// the number of a caller is from 1 to 256: of another caller [`read_line`](crate::read_line) reads no line.
+/// Puts the one spelling of the line at the end of the text, without a line feed. Each number of the line has a name. Of a
+/// caller whose number isn't from 1 to 256 [`read_line`](crate::read_line) reads no line.
 ///
 /// # Errors
 ///

@@ -14,7 +14,7 @@ use dt_script::NameBook;
 
 /// Puts the text of the log: for each phase its first line, a line for each batch and the lines of its callers, and a line
 /// with the last version at the end. Each number of a class or a body in the log has a name. It takes no memory, and puts
-/// the text in pieces of some 16 KiB, the first before the last is made.
+/// the text in pieces of some 16 KiB, each before the next is made.
 ///
 /// # Errors
 ///

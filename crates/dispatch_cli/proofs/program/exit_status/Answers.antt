@@ -17,7 +17,7 @@ returns-clause-ends g c = elim c.match-words_of.branch [
   | in-Err w ↦ (
     NoMemory,
     c.number.ensures ∙ ap number_of w.status-is,
-    inr (refl, rw w.source-is (rw w.sink-is refl)),
+    inr (refl, (w.source-is, w.sink-is)),
   )
 ]
 
