@@ -10,8 +10,10 @@ expect() {
     [ "$2" = "$3" ]
 }
 
-# The reader is gone before the first byte is put. Where the signal of a closed pipe isn't ignored it ends the process.
+# The reader is gone before the first byte is put, whether the signal of a closed pipe is ignored or not.
 status=$( ( (trap '' PIPE; sleep 0.5; ended=0; ./dispatch run --table sti <"$script" || ended=$?; echo $ended >&3) | true) 3>&1 )
+expect "a closed pipe, its signal ignored" "$status" 5
+status=$( ( (sleep 0.5; ended=0; ./dispatch run --table sti <"$script" || ended=$?; echo $ended >&3) | true) 3>&1 )
 expect "a closed pipe" "$status" 5
 
 # Each request for memory fails in turn: the status is 0 or 6, and at 6 no byte of the log was put. A small library that
