@@ -3,7 +3,7 @@ use Rattle.std.proofs.Common.{◌≡◌, ◌+◌, List, [], ◌∷◌, ◌++◌,
 use Rattle.std.specs.Result.{result_unwrap_or}
 use Rattle.dt_graph.specs.Refusal.{ok_unless}
 use Rattle.dt_definitions.specs.Program.{Program, empty_program}
-use Rattle.dt_definitions.specs.Step.{refusal, effect, step, step_batch, stepped, after, after_from, and_then, Refused, Applies, AppliesBatch}
+use Rattle.dt_definitions.specs.Step.{refusal, effect, step_edit, step_batch, stepped, after, after_from, and_then, Refused, Applies, AppliesBatch}
 use Rattle.dt_definitions.specs.AnswerLaws.{EditAnswer, BatchAnswer, IsDecided, IsDecidedBatch, EditsHaveOneAnswer, EditsHaveAnAnswer, OkHasNoCause, RefusalsAreTheFirstCause, OkAloneChanges, BatchesHaveOneAnswer, BatchesHaveAnAnswer, OkAloneChangesByBatch, OneEditIsABatch, BatchesGoOn, BatchesEnd, LaterEditsDontCount, HistoriesGoOn, BatchesMakeHistories}
 use Rattle.dt_definitions.specs.declared.edit.Edit.{Edit}
 use Rattle.dt_definitions.specs.declared.why.Why.{Why}
@@ -25,21 +25,13 @@ edits_have_one_answer old p q edit (Err apply_fault.NoMemory) other da db a b = 
 edits_have_one_answer old p q edit (Ok _) (Err apply_fault.NoMemory) da db a b = absurd (db refl)
 edits_have_one_answer old p q edit (Err (apply_fault.Refused why)) (Err apply_fault.NoMemory) da db a b = absurd (db refl)
 
--- the answer that a step decides
-record Decided (old : Program) (edit : Edit) : Type 0 where
-  new : Program
-  answer : EditAnswer
-  decided : IsDecided answer
-  applies : Applies old edit new answer
-
 pub edits_have_an_answer : EditsHaveAnAnswer
 edits_have_an_answer old edit =
-    let one : Decided old edit =
-    elim (step old edit) as (λ s. step old edit ≡ s → Decided old edit) [
-      | (Ok new) ↦ λ e. record { new = new; answer = Ok tt; decided = λ q. cc; applies = e }
-      | (Err why) ↦ λ e. record { new = old; answer = Err (apply_fault.Refused why); decided = λ q. cc; applies = (e, refl) }
-    ] refl in
-    (one.new, one.answer, one.decided, one.applies)
+    elim (step_edit old edit) as (λ s. step_edit old edit ≡ s
+    → (new : Program) × (answer : EditAnswer) × IsDecided answer × Applies old edit new answer) [
+      | (Ok new) ↦ λ e. (new, Ok tt, (λ q. cc), e)
+      | (Err why) ↦ λ e. (old, Err (apply_fault.Refused why), (λ q. cc), (e, refl))
+    ] refl
 
 pub ok_has_no_cause : OkHasNoCause
 ok_has_no_cause old new edit h =
@@ -75,27 +67,20 @@ batches_have_one_answer old p q edits (Err batch_fault.NoMemory) other da db a b
 batches_have_one_answer old p q edits (Ok _) (Err batch_fault.NoMemory) da db a b = absurd (db refl)
 batches_have_one_answer old p q edits (Err (batch_fault.Refused at why)) (Err batch_fault.NoMemory) da db a b = absurd (db refl)
 
-record DecidedBatch (old : Program) (edits : List Edit) : Type 0 where
-  new : Program
-  answer : BatchAnswer
-  decided : IsDecidedBatch answer
-  applies : AppliesBatch old edits new answer
-
 pub batches_have_an_answer : BatchesHaveAnAnswer
 batches_have_an_answer old edits =
-    let one : DecidedBatch old edits =
-    elim (step_batch old edits) as (λ s. step_batch old edits ≡ s → DecidedBatch old edits) [
-      | (Ok new) ↦ λ e. record { new = new; answer = Ok tt; decided = λ q. cc; applies = e }
-      | (Err r) ↦ λ e. record { new = old; answer = Err (batch_fault.Refused r.at r.why); decided = λ q. cc; applies = (e, refl) }
-    ] refl in
-    (one.new, one.answer, one.decided, one.applies)
+    elim (step_batch old edits) as (λ s. step_batch old edits ≡ s
+    → (new : Program) × (answer : BatchAnswer) × IsDecidedBatch answer × AppliesBatch old edits new answer) [
+      | (Ok new) ↦ λ e. (new, Ok tt, (λ q. cc), e)
+      | (Err r) ↦ λ e. (old, Err (batch_fault.Refused r.at r.why), (λ q. cc), (e, refl))
+    ] refl
 
 pub ok_alone_changes_by_batch : OkAloneChangesByBatch
 ok_alone_changes_by_batch old new edits (batch_fault.Refused at why) h = h.1
 ok_alone_changes_by_batch old new edits batch_fault.NoMemory h = h
 
 -- a batch of one edit steps as its edit does
-alone : (old : Program) (edit : Edit) (s : Result Program Why) → step old edit ≡ s
+alone : (old : Program) (edit : Edit) (s : Result Program Why) → step_edit old edit ≡ s
     → step_batch old (edit ∷ []) ≡ and_then s 1 (λ q. Ok q)
 alone old edit s e = ap (λ t. and_then t 1 (λ q. Ok q)) e
 

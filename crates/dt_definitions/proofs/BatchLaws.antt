@@ -1,7 +1,7 @@
 -- A batch against its edits made one by one.
-use Rattle.std.proofs.Common.{◌≡◌, ℕ, ◌+◌, List, [], ◌∷◌, ◌++◌, length, Ok, Err, refl, sym, ap, ◌∙◌, arith}
+use Rattle.std.proofs.Common.{◌≡◌, ℕ, ◌+◌, List, [], ◌∷◌, ◌++◌, length, Ok, Err, refl, sym, ap, ◌∙◌, append-nil, arith}
 use Rattle.dt_definitions.specs.Program.{Program}
-use Rattle.dt_definitions.specs.Step.{step, step_from, step_batch, and_then, Refused}
+use Rattle.dt_definitions.specs.Step.{step_edit, step_from, step_batch, and_then, Refused}
 use Rattle.dt_definitions.specs.Laws.{LeadsTo, BatchIsItsEdits, EditsAreABatch, BatchStopsAtItsEdit, EditsStopABatch}
 use Rattle.dt_definitions.specs.declared.edit.Edit.{Edit}
 
@@ -9,15 +9,18 @@ leads : (place : ℕ) (p q : Program) (edits : List Edit) → step_from place p 
 leads place p q [] h = cc
 leads place p q (edit ∷ edits) h =
     let rest : (next : Program) → step_from (place + 1) next edits ≡ Ok q → LeadsTo next edits q = λ next e. leads (place + 1) next q edits e in
-    elim (step p edit) as (λ s. step p edit ≡ s → and_then s place (λ next. step_from (place + 1) next edits) ≡ Ok q → LeadsTo p (edit ∷ edits) q) [
+    elim (step_edit p edit) as (λ s. step_edit p edit ≡ s → and_then s place (λ next. step_from (place + 1) next edits) ≡ Ok q → LeadsTo p (edit ∷ edits) q) [
       | (Ok next) ↦ λ e k. (next, e, rest next k)
       | (Err why) ↦ λ e k. absurd cc
     ] refl h
 
-follows : (place : ℕ) (p q : Program) (edits : List Edit) → LeadsTo p edits q → step_from place p edits ≡ Ok q
-follows place p q [] h = ap Ok h
-follows place p q (edit ∷ edits) h =
-    ap (λ s. and_then s place (λ next. step_from (place + 1) next edits)) h.1 ∙ follows (place + 1) h.0 q edits h.2
+-- the steps after those that were accepted
+along : (place : ℕ) (p q : Program) (edits more : List Edit) → LeadsTo p edits q
+    → step_from place p (edits ++ more) ≡ step_from (length edits + place) q more
+along place p q [] more h = rw h (ap (λ n. step_from n q more) (omega arith))
+along place p q (edit ∷ edits) more h =
+    ap (λ s. and_then s place (λ next. step_from (place + 1) next (edits ++ more))) h.1
+    ∙ along (place + 1) h.0 q edits more h.2 ∙ ap (λ n. step_from n q more) (omega arith)
 
 -- the place of the refused edit, counted from that of the first
 record Stops (place : ℕ) (p : Program) (edits : List Edit) (refused : Refused) : Type 0 where
@@ -28,14 +31,14 @@ record Stops (place : ℕ) (p : Program) (edits : List Edit) (refused : Refused)
   whole : edits ≡ before ++ edit ∷ later
   counted : refused.at ≡ length before + place
   accepted : LeadsTo p before reached
-  cause : step reached edit ≡ Err refused.why
+  cause : step_edit reached edit ≡ Err refused.why
 
 stops : (place : ℕ) (p : Program) (edits : List Edit) (refused : Refused)
     → step_from place p edits ≡ Err refused → Stops place p edits refused
 stops place p [] refused h = absurd cc
 stops place p (edit ∷ edits) refused h =
     let rest : (next : Program) → step_from (place + 1) next edits ≡ Err refused → Stops (place + 1) next edits refused = λ next e. stops (place + 1) next edits refused e in
-    elim (step p edit) as (λ s. step p edit ≡ s → and_then s place (λ next. step_from (place + 1) next edits) ≡ Err refused → Stops place p (edit ∷ edits) refused) [
+    elim (step_edit p edit) as (λ s. step_edit p edit ≡ s → and_then s place (λ next. step_from (place + 1) next edits) ≡ Err refused → Stops place p (edit ∷ edits) refused) [
       | (Ok next) ↦ λ e k.
           let r = rest next k in record {
             before = edit ∷ r.before;
@@ -60,19 +63,9 @@ stops place p (edit ∷ edits) refused h =
           }
     ] refl h
 
--- the steps after those that were accepted
 pub goes_on : (place : ℕ) (p q : Program) (edits more : List Edit) → step_from place p edits ≡ Ok q
     → step_from place p (edits ++ more) ≡ step_from (length edits + place) q more
-goes_on place p q [] more h = let same : p ≡ q = cc in rw same (ap (λ n. step_from n q more) (omega arith))
-goes_on place p q (edit ∷ edits) more h =
-    let rest : (next : Program) → step_from (place + 1) next edits ≡ Ok q
-    → step_from (place + 1) next (edits ++ more) ≡ step_from (length edits + (place + 1)) q more =
-    λ next e. goes_on (place + 1) next q edits more e in
-    elim (step p edit) as (λ s. and_then s place (λ next. step_from (place + 1) next edits) ≡ Ok q
-    → and_then s place (λ next. step_from (place + 1) next (edits ++ more)) ≡ step_from (length (edit ∷ edits) + place) q more) [
-      | (Ok next) ↦ λ e. rest next e ∙ ap (λ n. step_from n q more) (omega arith)
-      | (Err why) ↦ λ e. absurd cc
-    ] h
+goes_on place p q edits more h = along place p q edits more (leads place p q edits h)
 
 -- a refusal stands, whatever edits come after
 pub stays_refused : (place : ℕ) (p : Program) (edits more : List Edit) (refused : Refused) → step_from place p edits ≡ Err refused
@@ -82,7 +75,7 @@ stays_refused place p (edit ∷ edits) more refused h =
     let rest : (next : Program) → step_from (place + 1) next edits ≡ Err refused
     → step_from (place + 1) next (edits ++ more) ≡ Err refused =
     λ next e. stays_refused (place + 1) next edits more refused e in
-    elim (step p edit) as (λ s. and_then s place (λ next. step_from (place + 1) next edits) ≡ Err refused
+    elim (step_edit p edit) as (λ s. and_then s place (λ next. step_from (place + 1) next edits) ≡ Err refused
     → and_then s place (λ next. step_from (place + 1) next (edits ++ more)) ≡ Err refused) [
       | (Ok next) ↦ λ e. rest next e
       | (Err why) ↦ λ e. e
@@ -92,7 +85,7 @@ pub batch_is_its_edits : BatchIsItsEdits
 batch_is_its_edits p q edits h = leads 1 p q edits h
 
 pub edits_are_a_batch : EditsAreABatch
-edits_are_a_batch p q edits h = follows 1 p q edits h
+edits_are_a_batch p q edits h = ap (step_batch p) (sym (append-nil edits)) ∙ along 1 p q edits [] h
 
 pub batch_stops : BatchStopsAtItsEdit
 batch_stops p edits refused h =
@@ -109,7 +102,7 @@ batch_stops p edits refused h =
 
 pub edits_stop_a_batch : EditsStopABatch
 edits_stop_a_batch p edits refused s =
-    let steps = goes_on 1 p s.reached s.before (s.edit ∷ s.later) (follows 1 p s.reached s.before s.accepted) in
+    let steps = along 1 p s.reached s.before (s.edit ∷ s.later) s.accepted in
     let stop = ap (λ r. and_then r (length s.before + 1) (λ q. step_from (length s.before + 1 + 1) q s.later)) s.cause in
     let told : record { at = length s.before + 1; why = refused.why } ≡ refused = rw (sym s.place) refl in
     ap (step_batch p) s.whole ∙ steps ∙ stop ∙ ap Err told

@@ -10,13 +10,9 @@ before-irrefl (x ∷ xs) = let r = before-irrefl xs in grind (arith, nat_tests)
 
 pub before-trans : (xs ys zs : List ℕ)
     → IsTrue (are_classes_before xs ys) → IsTrue (are_classes_before ys zs) → IsTrue (are_classes_before xs zs)
-before-trans [] [] zs p q = cc
-before-trans [] (y ∷ ys) [] p q = cc
 before-trans [] (y ∷ ys) (z ∷ zs) p q = refl
-before-trans (x ∷ xs) [] zs p q = cc
-before-trans (x ∷ xs) (y ∷ ys) [] p q = cc
-before-trans (x ∷ xs) (y ∷ ys) (z ∷ zs) p q =
-    let r = before-trans xs ys zs in grind (arith, nat_tests)
+before-trans (x ∷ xs) (y ∷ ys) (z ∷ zs) p q = let r = before-trans xs ys zs in grind (arith, nat_tests)
+before-trans xs ys zs p q = cc
 
 -- of two lists one is before the other, or they are the same
 pub before-total : (xs ys : List ℕ)
@@ -24,11 +20,9 @@ pub before-total : (xs ys : List ℕ)
 before-total [] [] b s = cc
 before-total [] (y ∷ ys) b s = cc
 before-total (x ∷ xs) [] b s = refl
-before-total (x ∷ xs) (y ∷ ys) b s =
-    let r = before-total xs ys in grind (arith, nat_tests)
+before-total (x ∷ xs) (y ∷ ys) b s = let r = before-total xs ys in grind (arith, nat_tests)
 
 pub same-sym : (xs ys : List ℕ) → same_classes xs ys ≡ same_classes ys xs
 same-sym [] [] = refl
-same-sym [] (y ∷ ys) = refl
-same-sym (x ∷ xs) [] = refl
 same-sym (x ∷ xs) (y ∷ ys) = let r = same-sym xs ys in grind (arith, nat_tests)
+same-sym xs ys = refl

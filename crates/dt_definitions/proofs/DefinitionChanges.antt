@@ -11,7 +11,7 @@ use Rattle.dt_definitions.specs.Program.{Definition, is_definition, insert_defin
 use Rattle.dt_definitions.specs.Naming.{NamingList, naming, insert_key, without_key, keys_at, room_at, HasRoomIn, KeysStay, RoomsGrow}
 use Rattle.dt_definitions.specs.SelectorLists.{SelectorList, with_selector, definitions_from, rooms_of, rooms_in, body_in, DefinitionsKept, NoneDefined, HaveSameDefinitions, ListRoomFor, HasNamingRoom, NoneShrinks}
 use Rattle.dt_definitions.proofs.DefinitionOrder.{key_order, insert-ascends, filter-ascends, is_definition-equal}
-use Rattle.dt_definitions.proofs.Lengths.{length-insert_new, length-insert_again, length-without}
+use Rattle.dt_definitions.proofs.Keys.{length-insert_new, length-insert_again, length-without}
 use Rattle.dt_definitions.proofs.Keys.{keys-insert, keys-again, keys-without}
 use Rattle.dt_definitions.proofs.Lists.{none_from_empty, of_row, find_of}
 
@@ -120,11 +120,6 @@ rooms-at (list ∷ lists) (suc class) = rooms-at lists class
 pub none_shrinks : (old new : List NamingList) → RoomsGrow old new → NoneShrinks (rooms_in old) (rooms_in new)
 none_shrinks old new grow = λ class. let g = grow class in omega (arith, rooms-at old class, rooms-at new class, g)
 
-pub room_in_lists : (rows : List SelectorList) (count : ℕ) (lists : List NamingList) (classes : List ℕ) → DefinitionsKept rows count lists
-    → HasNamingRoom (definitions_from 0 rows) (rooms_in lists) classes → HasRoomIn lists classes
-room_in_lists rows count lists classes k room = λ class small there.
-    let h = room class small there in omega (arith, ap length (k.named class small), rooms-at lists class, h)
-
 pub room_of_lists : (rows : List SelectorList) (count : ℕ) (lists : List NamingList) (classes : List ℕ) → DefinitionsKept rows count lists
     → HasRoomIn lists classes → HasNamingRoom (definitions_from 0 rows) (rooms_in lists) classes
 room_of_lists rows count lists classes k room = λ class small there.
@@ -175,21 +170,18 @@ kept_empty rows lists l n none =
 pub same_push : (rows news : List SelectorList) (row new : SelectorList)
     → HaveSameDefinitions rows news → new.defined ≡ row.defined → HaveSameDefinitions (rows ++ row ∷ []) (news ++ new ∷ [])
 same_push [] [] row new h e = (e, tt)
-same_push [] (n ∷ news) row new h e = absurd h
-same_push (r ∷ rows) [] row new h e = absurd h
 same_push (r ∷ rows) (n ∷ news) row new h e = (h.0, same_push rows news row new h.1 e)
+same_push rows news row new h e = absurd h
 
 pub same_length : (rows news : List SelectorList) → HaveSameDefinitions rows news → length news ≡ length rows
 same_length [] [] h = refl
-same_length [] (n ∷ news) h = absurd h
-same_length (r ∷ rows) [] h = absurd h
 same_length (r ∷ rows) (n ∷ news) h = ap suc (same_length rows news h.1)
+same_length rows news h = absurd h
 
 pub same_definitions : (k : ℕ) (rows news : List SelectorList) → HaveSameDefinitions rows news → definitions_from k news ≡ definitions_from k rows
 same_definitions k [] [] h = refl
-same_definitions k [] (n ∷ news) h = absurd h
-same_definitions k (r ∷ rows) [] h = absurd h
 same_definitions k (r ∷ rows) (n ∷ news) h = let rest = same_definitions (k + 1) rows news h.1 in rw (h.0, rest) refl
+same_definitions k rows news h = absurd h
 
 -- a row that has lost a definition has room for it, and so has the table
 pub room_for : (rows : List SelectorList) (i s : ℕ) (cs : List ℕ) (r : SelectorList)

@@ -1,10 +1,11 @@
 -- The order of definitions, and lists of definitions that ascend in it.
-use Rattle.std.proofs.Common.{◌≡◌, ℕ, Bool, List, filter, IsTrue, refl, sym, arith, eqb}
+use Rattle.std.proofs.Common.{◌≡◌, ℕ, ◌≤◌, Bool, List, filter, IsTrue, refl, sym, arith, eqb}
+use Rattle.std.specs.List.{count_by}
 use Rattle.std.proofs.lemmas.Bool.{and_parts, eqb-true}
 use Rattle.std.proofs.lemmas.Bool.Decides.{nat_tests}
 use Rattle.dt_definitions.specs.Program.{Definition, same_classes, is_definition, insert_definition, key_of, is_key_before, is_same_key}
 use Rattle.dt_graph.specs.InOrder.{StrictOrder}
-use Rattle.dt_graph.proofs.InOrder.{Ascends-insert, Ascends-filter}
+use Rattle.dt_graph.proofs.InOrder.{Ascends-insert, Ascends-filter, stands_once}
 use Rattle.dt_definitions.specs.Lawful.{AscendingDefinitions}
 use Rattle.dt_graph.proofs.SameLists.{same_list-self, same_list_equal}
 use Rattle.dt_definitions.proofs.ClassOrder.{same-sym, before-irrefl, before-trans, before-total}
@@ -37,3 +38,7 @@ insert-ascends d ds h = Ascends-insert key_of is_key_before is_same_key key_orde
 pub filter-ascends : (p : Definition → Bool) (ds : List Definition)
     → AscendingDefinitions ds → AscendingDefinitions (filter p ds)
 filter-ascends p ds h = Ascends-filter key_of is_key_before is_same_key key_order p ds h
+
+-- no selector is defined twice at the same classes
+pub defined-once : (selector : ℕ) (classes : List ℕ) (ds : List Definition) → AscendingDefinitions ds → count_by (is_definition selector classes) ds ≤ 1
+defined-once selector classes ds h = stands_once key_of is_key_before is_same_key key_order (record { selector = selector; classes = classes }) ds h

@@ -3,12 +3,11 @@ use Rattle.std.proofs.Common.{◌≡◌, ◌==◌, ℕ, Bool, false, not, List, 
 use Rattle.std.proofs.lemmas.Bool.{or_parts}
 use Rattle.std.proofs.lemmas.Bool.Decides.{nat_tests}
 use Rattle.std.proofs.lemmas.List.Folds.{list_any-append}
-use Rattle.dt_graph.specs.Graph as graphs
 use Rattle.dt_graph.specs.Graph.{has_number}
 use Rattle.dt_graph.specs.LinkChanges.{OthersKeepTheirLinks}
 use Rattle.dt_graph.proofs.Effects.{links_after_add, links_after_drop, links_after_link, links_after_unlink}
 use Rattle.dt_graph.proofs.ListMembers.{In-from_Contains, Contains-from_In, In-filter, In-from_filter}
-use Rattle.dt_graph.proofs.PlacedMembers.{In-inserted, In-from_inserted}
+use Rattle.dt_graph.proofs.InOrder.{In-inserted, In-from_inserted}
 use Rattle.dt_definitions.specs.Program.{Definition, Program, is_definition, insert_definition, key_of, is_key_before, is_same_key}
 use Rattle.dt_definitions.specs.declared.definition_key.DefinitionKey.{DefinitionKey}
 use Rattle.dt_definitions.specs.Laws.{LeadsTo}
@@ -16,7 +15,7 @@ use Rattle.dt_definitions.specs.Step.{effect}
 use Rattle.dt_definitions.specs.Differing.{OthersStayDefined, DifferOnlyAt, is_at_any, edited_by, redefined_by, edited_classes, redefined_keys}
 use Rattle.dt_definitions.specs.BatchLaws.{BatchesDifferWhereTheySay, BatchesKeepLaw}
 use Rattle.dt_definitions.specs.declared.edit.Edit.{Edit}
-use Rattle.dt_definitions.specs.declared.edit.Edit.TheVariants.{AddClass, DropClass, Link, Unlink, AddSelector, DropSelector, Define, Undefine}
+use Rattle.dt_definitions.specs.declared.edit.Edit.TheVariants.{AddClass, DropClass, Link, Unlink, Define, Undefine}
 use Rattle.dt_definitions.proofs.AnswerLaws.{ok_has_no_cause}
 use Rattle.dt_definitions.proofs.BatchLaws.{batch_is_its_edits}
 use Rattle.dt_definitions.proofs.DefinitionOrder.{key_order}
@@ -44,47 +43,27 @@ others_removed selector classes ds = λ d apart.
       (λ there. Contains-from_In ds d (In-from_filter test ds d (In-from_Contains (filter test ds) d there)).0),
     )
 
-same_definitions : (redefined : List DefinitionKey) (ds : List Definition) → OthersStayDefined redefined ds ds
-same_definitions redefined ds = λ d apart. ((λ there. there), (λ there. there))
-
-same_links : (edited : List ℕ) (links : List graphs.Link) → OthersKeepTheirLinks edited links links
-same_links edited links = λ class parent apart. refl
-
 -- ---- one edit
 
+others_linked : (p : Program) (edit : Edit) → OthersKeepTheirLinks (edited_by edit) p.graph.links (effect p edit).graph.links
+others_linked p (AddClass class parents) low high apart =
+    let after = links_after_add p.graph class parents low high in grind (arith, nat_tests)
+others_linked p (DropClass class) low high apart =
+    let after = links_after_drop p.graph class low high in grind (arith, nat_tests)
+others_linked p (Link class parent) low high apart =
+    let after = links_after_link p.graph class parent low high in grind (arith, nat_tests)
+others_linked p (Unlink class parent) low high apart =
+    let after = links_after_unlink p.graph class parent low high in grind (arith, nat_tests)
+others_linked p edit low high apart = refl
+
+others_defined : (p : Program) (edit : Edit) → OthersStayDefined (redefined_by edit) p.definitions (effect p edit).definitions
+others_defined p (Define selector classes body) =
+    others_placed (record { selector = selector; classes = classes; body = body }) p.definitions
+others_defined p (Undefine selector classes) = others_removed selector classes p.definitions
+others_defined p edit = λ d apart. ((λ there. there), (λ there. there))
+
 pub differ_by : (p : Program) (edit : Edit) → DifferOnlyAt (edited_by edit) (redefined_by edit) p (effect p edit)
-differ_by p (AddClass class parents) = record {
-  links = λ low high apart.
-      let f : (class == low) ≡ false = (or_parts (class == low) false apart).0 in
-      sym (links_after_add p.graph class parents low high ∙ rw f refl);
-  definitions = same_definitions [] p.definitions;
-}
-differ_by p (DropClass class) = record {
-  links = λ low high apart. let h = links_after_drop p.graph class low high in grind (arith, nat_tests);
-  definitions = same_definitions [] p.definitions;
-}
-differ_by p (Link class parent) = record {
-  links = λ low high apart.
-      let f : (class == low) ≡ false = (or_parts (class == low) false apart).0 in
-      sym (links_after_link p.graph class parent low high ∙ rw f refl);
-  definitions = same_definitions [] p.definitions;
-}
-differ_by p (Unlink class parent) = record {
-  links = λ low high apart. let h = links_after_unlink p.graph class parent low high in grind (arith, nat_tests);
-  definitions = same_definitions [] p.definitions;
-}
-differ_by p (AddSelector selector arity) =
-    record { links = same_links [] p.graph.links; definitions = same_definitions [] p.definitions }
-differ_by p (DropSelector selector) =
-    record { links = same_links [] p.graph.links; definitions = same_definitions [] p.definitions }
-differ_by p (Define selector classes body) = record {
-  links = same_links [] p.graph.links;
-  definitions = others_placed (record { selector = selector; classes = classes; body = body }) p.definitions;
-}
-differ_by p (Undefine selector classes) = record {
-  links = same_links [] p.graph.links;
-  definitions = others_removed selector classes p.definitions;
-}
+differ_by p edit = record { links = others_linked p edit; definitions = others_defined p edit }
 
 -- ---- one after the other
 
@@ -107,7 +86,7 @@ and_then edited more redefined further p q r first second = record {
 by_edits : (p q : Program) (edits : List Edit) → LeadsTo p edits q →
     DifferOnlyAt (edited_classes edits) (redefined_keys edits) p q
 by_edits p q [] same = subst (λ r. DifferOnlyAt [] [] p r) same
-    (record { links = same_links [] p.graph.links; definitions = same_definitions [] p.definitions })
+    (record { links = λ class parent apart. refl; definitions = λ d apart. ((λ there. there), (λ there. there)) })
 by_edits p q (edit ∷ edits) leads =
     let next : leads.0 ≡ effect p edit = (ok_has_no_cause p leads.0 edit leads.1).1 in
     and_then (edited_by edit) (edited_classes edits) (redefined_by edit) (redefined_keys edits) p leads.0 q

@@ -1,9 +1,10 @@
 -- Each edit that was made is undone by its inverse, which isn't refused.
-use Rattle.std.proofs.Common.{◌≡◌, ℕ, Bool, true, false, not, ◌&&◌, List, [], ◌∷◌, ◌++◌, length, Option, None, Some, Ok, find, filter, is_some, IsTrue, All, refl, sym, ap, subst, ◌∙◌, arith, eqb, eq-eqb, leb}
+use Rattle.std.proofs.Common.{◌≡◌, ℕ, Bool, true, false, not, List, [], ◌∷◌, ◌++◌, length, Option, None, Some, Ok, find, filter, is_some, IsTrue, All, refl, sym, ap, subst, ◌∙◌, arith, eqb, eq-eqb, leb}
 use Rattle.std.specs.List.{list_any}
 use Rattle.std.specs.Option.{option_map}
-use Rattle.std.proofs.lemmas.Bool.{false≢true, ne_eqb, lt-leb, not-false}
-use Rattle.std.proofs.lemmas.List.Elements.{All-head, All-tail}
+use Rattle.std.proofs.lemmas.Bool.{and_right, false≢true, ne_eqb, lt-leb, not-false}
+use Rattle.std.proofs.lemmas.List.Elements.{All-weaker}
+use Rattle.std.proofs.lemmas.List.Folds.{list_any_none}
 use Rattle.dt_graph.specs.Refusal.{cause_if, first_cause}
 use Rattle.dt_graph.specs.Graph.{has_number, is_live}
 use Rattle.dt_graph.specs.GraphChange.{add_cause, drop_cause, link_cause, unlink_cause}
@@ -15,7 +16,7 @@ use Rattle.dt_selectors.proofs.Undoing.{adding_undone, dropping_undone}
 use Rattle.dt_selectors.proofs.Arities.{adding, dropping}
 use Rattle.dt_definitions.specs.Program.{Definition, Program, is_definition, insert_definition, key_of, is_key_before, is_same_key}
 use Rattle.dt_definitions.specs.Lawful.{Lawful, LawfulDefinition, IsInRange}
-use Rattle.dt_definitions.specs.Step.{refusal, effect, step, why_of, is_named, is_defined, has_definition, place_causes, with_graph, with_selectors, with_definitions}
+use Rattle.dt_definitions.specs.Step.{refusal, effect, step_edit, why_of, is_named, is_defined, has_definition, place_causes, with_graph, with_selectors, with_definitions}
 use Rattle.dt_definitions.specs.Undo.{inverse, arity_again, body_again}
 use Rattle.dt_definitions.specs.declared.limits.TheConstants.{DEFINITIONS}
 use Rattle.dt_definitions.specs.declared.definition_key.DefinitionKey.{DefinitionKey}
@@ -27,12 +28,11 @@ use Rattle.dt_definitions.proofs.Steps.{not_caused, none_mapped}
 use Rattle.dt_graph.proofs.Refusals.{no_test, no_found}
 use Rattle.dt_definitions.proofs.DefinitionOrder.{key_order}
 use Rattle.dt_definitions.proofs.DefinitionUndo.{placed_there, found_is}
-use Rattle.dt_definitions.proofs.Lengths.{length-without}
+use Rattle.dt_definitions.proofs.Keys.{length-without}
 
 -- a test that fails for all elements with the property
 none_passes : {X : Type 0} (P : X → Type 0) (test : X → Bool) → ((x : X) → P x → test x ≡ false) → (xs : List X) → All P xs → list_any test xs ≡ false
-none_passes P test fails [] all = refl
-none_passes P test fails (x ∷ xs) all = rw (fails x (All-head P x xs all)) (none_passes P test fails xs (All-tail P x xs all))
+none_passes P test fails xs all = list_any_none test xs (All-weaker P (λ x. test x ≡ false) fails xs all)
 
 -- no definition names a class that isn't live, or is of a selector that isn't
 unnamed : (p : Program) (class : ℕ) → Lawful p → is_live p.graph class ≡ false → is_named p class ≡ false
@@ -61,10 +61,6 @@ the_last [] (Some cause) h = absurd cc
 the_last (None ∷ causes) last h = the_last causes last h
 the_last (Some cause ∷ causes) last h = absurd cc
 
-both : (b : Bool) → (b && false) ≡ false
-both true = refl
-both false = refl
-
 abbrev pub IsUndone : Program → Edit → Program → Type 0
 IsUndone q edit p = (refusal q edit ≡ None) × (effect q edit ≡ p)
 
@@ -85,7 +81,7 @@ define_undone p s cs body lawful h = go (find (is_definition s cs) p.definitions
       ap (with_definitions p) (remove_inserted key_of is_key_before is_same_key key_order d p.definitions is),
     )
     go (Some old) is = (
-      other_last (place_causes p s cs) _ _ h (rw (there, both (leb DEFINITIONS (length (insert_definition d p.definitions)))) refl),
+      other_last (place_causes p s cs) _ _ h (rw (there, and_right (leb DEFINITIONS (length (insert_definition d p.definitions))) false refl) refl),
       ap (with_definitions p) (subst (λ o. insert_definition o (insert_definition d p.definitions) ≡ p.definitions) (found_is s cs p.definitions old is)
           (put_back_replaced key_of is_key_before is_same_key key_order d old p.definitions lawful.definitions_ascend is)),
     )
@@ -161,7 +157,7 @@ effect-undone p (DropSelector selector) l r h = drop_selector_undone p selector 
 effect-undone p (Define selector classes body) l r h = define_undone p selector classes body l h
 effect-undone p (Undefine selector classes) l r h = undefine_undone p selector classes l h
 
-pub step-undone : (old new : Program) (edit : Edit) → Lawful old → IsInRange edit → step old edit ≡ Ok new → IsUndone new (inverse old edit) old
+pub step-undone : (old new : Program) (edit : Edit) → Lawful old → IsInRange edit → step_edit old edit ≡ Ok new → IsUndone new (inverse old edit) old
 step-undone old new edit l r h =
     let made = ok_has_no_cause old new edit h in
     subst (λ q. IsUndone q (inverse old edit) old) (sym made.1) (effect-undone old edit l r (sym made.0))

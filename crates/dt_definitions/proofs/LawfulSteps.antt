@@ -12,7 +12,7 @@ use Rattle.dt_selectors.specs.Selectors.{Selector, arity_in, has_selector, inser
 use Rattle.dt_selectors.specs.Lawful.{LawfulSelectors}
 use Rattle.dt_definitions.specs.Program.{Definition, Program, empty_program, arity_of, definitions_of, is_definition, insert_definition, key_of, is_key_before, is_same_key}
 use Rattle.dt_definitions.specs.Lawful.{LawfulDefinition, Lawful, IsInRange}
-use Rattle.dt_definitions.specs.Step.{why_of, is_named, is_defined, arity_differs, refusal, effect, step, with_graph, with_selectors, with_definitions, Applies}
+use Rattle.dt_definitions.specs.Step.{why_of, is_named, is_defined, arity_differs, refusal, effect, step_edit, with_graph, with_selectors, with_definitions, Applies}
 use Rattle.dt_definitions.specs.declared.edit.Edit.{Edit}
 use Rattle.dt_definitions.specs.declared.edit.Edit.TheVariants.{AddClass, DropClass, Link, Unlink, AddSelector, DropSelector, Define, Undefine}
 use Rattle.dt_definitions.specs.declared.why.Why.{Why}
@@ -160,7 +160,7 @@ effect-lawful p (Undefine selector classes) l r h =
       few_definitions = omega (arith, few-filter others p.definitions, l.few_definitions);
     }
 
-pub step-lawful : (old : Program) (edit : Edit) (new : Program) → Lawful old → IsInRange edit → step old edit ≡ Ok new → Lawful new
+pub step-lawful : (old : Program) (edit : Edit) (new : Program) → Lawful old → IsInRange edit → step_edit old edit ≡ Ok new → Lawful new
 step-lawful old edit new l r h =
     let made = ok_has_no_cause old new edit h in
     subst Lawful (sym made.1) (effect-lawful old edit l r (sym made.0))

@@ -2,8 +2,6 @@ pub mod ClassOrder
 pub mod Searching
 pub mod ListOrder
 pub mod DefinitionOrder
-pub mod DefinedOnce
-pub mod Lengths
 pub mod Keys
 pub mod NamingLists
 pub mod Lists

@@ -1,43 +1,45 @@
 -- The lists of the classes, and a change of those of some classes.
-use Rattle.std.proofs.Common.{◌≡◌, ℕ, zero, suc, ◌+◌, ◌<◌, ◌≤◌, true, false, cond, ◌||◌, List, [], ◌∷◌, ◌++◌, length, get_or, set, take, eqb, refl, sym, ap, subst, ◌∙◌, arith}
+use Rattle.std.proofs.Common.{◌≡◌, ℕ, zero, suc, ◌+◌, ◌<◌, ◌≤◌, true, false, cond, ◌||◌, List, [], ◌∷◌, length, get_or, set, take, eqb, refl, sym, ap, subst, ◌∙◌, arith}
 use Rattle.std.specs.List.{list_any}
 use Rattle.std.proofs.lemmas.Bool.{eqb-true, eq-eqb, ne_eqb}
 use Rattle.std.proofs.lemmas.Bool.Decides.{nat_tests}
-use Rattle.std.proofs.lemmas.List.{take_more, get_or_default}
-use Rattle.std.proofs.lemmas.List.Folds.{list_any_at}
-use Rattle.std.specs.Prelude.{IsSome}
+use Rattle.std.proofs.lemmas.List.{get_or_default}
+use Rattle.std.proofs.lemmas.List.Folds.{list_any_at, list_any_more}
+use Rattle.std.specs.Prelude.{IsSome, slice_index_or}
+use Rattle.dt_graph.proofs.ListMembers.{by_cases}
 use Rattle.dt_graph.specs.Graph.{has_number}
 use Rattle.dt_graph.specs.declared.limits.TheConstants.{CLASSES}
 use Rattle.dt_graph.specs.InOrder.{find_at}
 use Rattle.dt_definitions.specs.Program.{is_same_key}
 use Rattle.dt_definitions.specs.declared.definition_key.DefinitionKey.{DefinitionKey}
-use Rattle.dt_definitions.specs.Naming.{NamingList, itself, none_kept, without_key, keys_at, room_at, HasRoomIn, HasRoomAgain, KeysStay, RoomsGrow}
+use Rattle.dt_definitions.specs.Naming.{NamingList, itself, none_kept, without_key, keys_at, room_at, HasRoomIn, HasRoomAgain, RoomsGrow}
+
+set-at : (lists : List NamingList) (i : ℕ) (new : NamingList) (class : ℕ) → i < length lists
+    → slice_index_or (set lists i new) class none_kept ≡ cond (eqb i class) new (slice_index_or lists class none_kept)
+set-at [] i new class l = absurd (omega arith)
+set-at (list ∷ lists) zero new zero l = refl
+set-at (list ∷ lists) zero new (suc class) l = let e = ne_eqb 0 (suc class) (λ q. absurd (omega (arith, q))) in rw e refl
+set-at (list ∷ lists) (suc i) new zero l = let e = ne_eqb (suc i) 0 (λ q. absurd (omega (arith, q))) in rw e refl
+set-at (list ∷ lists) (suc i) new (suc class) l = let r = set-at lists i new class (omega arith) in grind (arith, nat_tests)
 
 pub keys-set : (lists : List NamingList) (i : ℕ) (new : NamingList) (class : ℕ) → i < length lists
     → keys_at (set lists i new) class ≡ cond (eqb i class) new.keys (keys_at lists class)
-keys-set [] i new class l = absurd (omega arith)
-keys-set (list ∷ lists) zero new zero l = refl
-keys-set (list ∷ lists) zero new (suc class) l = let e = ne_eqb 0 (suc class) (λ q. absurd (omega (arith, q))) in rw e refl
-keys-set (list ∷ lists) (suc i) new zero l = let e = ne_eqb (suc i) 0 (λ q. absurd (omega (arith, q))) in rw e refl
-keys-set (list ∷ lists) (suc i) new (suc class) l = let r = keys-set lists i new class (omega arith) in grind (arith, nat_tests)
+keys-set lists i new class l =
+    ap (λ (list : NamingList). list.keys) (set-at lists i new class l) ∙ by_cases (eqb i class) (λ e. rw e refl) (λ e. rw e refl)
 
 pub rooms-set : (lists : List NamingList) (i : ℕ) (new : NamingList) (class : ℕ) → i < length lists
     → room_at (set lists i new) class ≡ cond (eqb i class) new.room (room_at lists class)
-rooms-set [] i new class l = absurd (omega arith)
-rooms-set (list ∷ lists) zero new zero l = refl
-rooms-set (list ∷ lists) zero new (suc class) l = let e = ne_eqb 0 (suc class) (λ q. absurd (omega (arith, q))) in rw e refl
-rooms-set (list ∷ lists) (suc i) new zero l = let e = ne_eqb (suc i) 0 (λ q. absurd (omega (arith, q))) in rw e refl
-rooms-set (list ∷ lists) (suc i) new (suc class) l = let r = rooms-set lists i new class (omega arith) in grind (arith, nat_tests)
-
-any_push : (ns : List ℕ) (x n : ℕ) → has_number (ns ++ x ∷ []) n ≡ (has_number ns n || eqb x n)
-any_push [] x n = grind arith
-any_push (m ∷ ns) x n = let r = any_push ns x n in grind arith
+rooms-set lists i new class l =
+    ap (λ (list : NamingList). list.room) (set-at lists i new class l) ∙ by_cases (eqb i class) (λ e. rw e refl) (λ e. rw e refl)
 
 pub one_more : (classes : List ℕ) (place x class : ℕ) → place < length classes → x ≡ get_or classes place x
     → has_number (take (place + 1) classes) class ≡ (has_number (take place classes) class || eqb x class)
 one_more classes place x class l r =
-    let more = take_more classes place x l ∙ ap (λ y. take place classes ++ y ∷ []) (sym r) in
-    ap (λ ns. has_number ns class) more ∙ any_push (take place classes) x class
+    list_any_more (λ m. eqb m class) classes place x l ∙ ap (λ m. has_number (take place classes) class || eqb m class) (sym r)
+
+-- a class that is among the earlier ones is so by its number
+earlier_too : (earlier : List ℕ) (x class : ℕ) → true ≡ has_number earlier x → eqb x class ≡ true → has_number earlier class ≡ true
+earlier_too earlier x class there same = subst (λ c. has_number earlier c ≡ true) (eqb-true x class same) (sym there)
 
 -- the lists of the first of these classes are changed, each once
 abbrev pub ChangedIn : (List DefinitionKey → List DefinitionKey) → List NamingList → List NamingList → List ℕ → Type 0
@@ -57,32 +59,21 @@ module _ (f : List DefinitionKey → List DefinitionKey) (old now : List NamingL
       let s = keys-set now x new class l in
       let m = one_more classes place x class within is in
       let h = changed class in
-      let k : new.keys ≡ f (keys_at old x) = e ∙ ap f (still absent) in
-      elim (eqb x class) as (λ t. eqb x class ≡ t → keys_at (set now x new) class
-      ≡ cond (has_number (take (place + 1) classes) class) (f (keys_at old class)) (keys_at old class)) [
-        | true ↦ λ same. let q = eqb-true x class same in grind arith
-        | false ↦ λ other. grind arith
-      ] refl
+      let k : eqb x class ≡ true → new.keys ≡ f (keys_at old class) = λ same.
+      e ∙ ap f (still absent ∙ ap (keys_at old) (eqb-true x class same)) in grind arith
 
   pub changed_else : true ≡ list_any (λ y. eqb y x) (take place classes) → ChangedIn f old now (take (place + 1) classes)
   changed_else there = λ class.
       let m = one_more classes place x class within is in
       let h = changed class in
-      elim (eqb x class) as (λ t. eqb x class ≡ t → keys_at now class
-      ≡ cond (has_number (take (place + 1) classes) class) (f (keys_at old class)) (keys_at old class)) [
-        | true ↦ λ same. let q = eqb-true x class same in grind arith
-        | false ↦ λ other. grind arith
-      ] refl
+      let k = earlier_too (take place classes) x class there in grind arith
 
 pub rooms_grow : (old now : List NamingList) (x : ℕ) (new : NamingList) → x < length now
     → RoomsGrow old now → room_at now x ≤ new.room → RoomsGrow old (set now x new)
 rooms_grow old now x new l grow more = λ class.
     let s = rooms-set now x new class l in
     let h = grow class in
-    elim (eqb x class) as (λ t. eqb x class ≡ t → room_at old class ≤ room_at (set now x new) class) [
-      | true ↦ λ same. let q = eqb-true x class same in rw (s, same) (omega (arith, h, ap (room_at now) q, more))
-      | false ↦ λ other. rw (s, other) h
-    ] refl
+    let q : eqb x class ≡ true → room_at now x ≡ room_at now class = λ same. ap (room_at now) (eqb-true x class same) in grind arith
 
 -- what is read of the lists
 module _ (now : List NamingList) (n : ℕ) (list : NamingList) (l : n < length now) (read : list ≡ get_or now n list) where
@@ -98,22 +89,12 @@ module _ (now : List NamingList) (n : ℕ) (list : NamingList) (l : n < length n
 named_at : (classes : List ℕ) (place x : ℕ) → place < length classes → x ≡ get_or classes place x → has_number classes x ≡ true
 named_at classes place x l r = list_any_at (λ m. eqb m x) classes place x l (eq-eqb (get_or classes place x) x (sym r))
 
--- the list of a class that isn't among the earlier ones has its room yet
-pub room_found : (f : List DefinitionKey → List DefinitionKey) (old now : List NamingList) (classes : List ℕ) (place x n : ℕ) (list : NamingList)
+-- a list whose keys are as they were has its room yet
+pub room_left : (old now : List NamingList) (classes : List ℕ) (place x n : ℕ) (list : NamingList)
     → place < length classes → x ≡ get_or classes place x → n ≡ x → n < length now → list ≡ get_or now n list
-    → false ≡ list_any (λ y. eqb y x) (take place classes) → ChangedIn f old now (take place classes) → RoomsGrow old now
-    → x < CLASSES → HasRoomIn old classes → length list.keys < list.room
-room_found f old now classes place x n list w is e l read absent changed grow small room =
-    let s = still f old now classes place x w is changed absent in
-    let k : list.keys ≡ keys_at old x = read_keys now n list l read ∙ ap (keys_at now) e ∙ s in
-    let r : list.room ≡ room_at now x = read_room now n list l read ∙ ap (room_at now) e in
-    omega (arith, room x small (named_at classes place x w is), grow x, ap length k, r)
-
-pub room_kept : (old now : List NamingList) (classes : List ℕ) (place x n : ℕ) (list : NamingList)
-    → place < length classes → x ≡ get_or classes place x → n ≡ x → n < length now → list ≡ get_or now n list
-    → KeysStay old now → RoomsGrow old now → x < CLASSES → HasRoomIn old classes → length list.keys < list.room
-room_kept old now classes place x n list w is e l read stay grow small room =
-    let k : list.keys ≡ keys_at old x = read_keys now n list l read ∙ ap (keys_at now) e ∙ stay x in
+    → keys_at now x ≡ keys_at old x → RoomsGrow old now → x < CLASSES → HasRoomIn old classes → length list.keys < list.room
+room_left old now classes place x n list w is e l read same grow small room =
+    let k : list.keys ≡ keys_at old x = read_keys now n list l read ∙ ap (keys_at now) e ∙ same in
     let r : list.room ≡ room_at now x = read_room now n list l read ∙ ap (room_at now) e in
     omega (arith, room x small (named_at classes place x w is), grow x, ap length k, r)
 
@@ -142,7 +123,4 @@ module _ (k : DefinitionKey) (old now : List NamingList) (classes : List ℕ) (p
   pub again_else : true ≡ list_any (λ y. eqb y n) (take place classes) → HasRoomAgain k old now (take (place + 1) classes)
   again_else found = λ class small there was.
       let m = one_more classes place n class w is in
-      before class small (elim (eqb n class) as (λ t. eqb n class ≡ t → has_number (take place classes) class ≡ true) [
-        | true ↦ λ same. subst (λ c. has_number (take place classes) c ≡ true) (eqb-true n class same) (sym found)
-        | false ↦ λ another. grind arith
-      ] refl) was
+      let k = earlier_too (take place classes) n class found in before class small (grind arith) was

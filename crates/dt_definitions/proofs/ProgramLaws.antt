@@ -7,7 +7,7 @@ use Rattle.dt_definitions.specs.Program.{Definition}
 use Rattle.dt_definitions.specs.Lawful.{LawfulDefinition}
 use Rattle.dt_definitions.specs.ProgramLaws.{LiveClassesAreInRange, DefinitionsFit, DefinitionsStandOnce, BodiesAreInRange, NoClassIsAboveItself}
 use Rattle.dt_graph.proofs.LinkLists.{each_number}
-use Rattle.dt_definitions.proofs.DefinedOnce.{defined-once}
+use Rattle.dt_definitions.proofs.DefinitionOrder.{defined-once}
 use Rattle.dt_definitions.proofs.LawfulSteps.{definitions-fit}
 
 pub live_classes_are_in_range : LiveClassesAreInRange

@@ -1,37 +1,28 @@
 -- A list in strict order is searched from its front, and changed at the place that the search finds.
-use Rattle.std.proofs.Common.{◌≡◌, ℕ, zero, suc, ◌<◌, ◌≤◌, Bool, true, false, List, [], ◌∷◌, length, get_or, set, map, IsTrue, All, cond, refl, sym, ap, subst, ◌∙◌, arith}
+use Rattle.std.proofs.Common.{◌≡◌, ℕ, zero, suc, ◌<◌, ◌≤◌, Bool, true, false, List, [], ◌∷◌, length, get_or, set, map, IsTrue, refl, sym, ap, subst, ◌∙◌, arith}
 use Rattle.std.specs.List.{HoldsAt, insert, remove}
 use Rattle.std.specs.Prelude.{Some, None, Ok, Err, is_some}
-use Rattle.std.proofs.lemmas.Bool.{false≢true}
 use Rattle.std.proofs.lemmas.List.{get_or_default}
-use Rattle.std.proofs.lemmas.List.Elements.{All-weaker}
+use Rattle.std.proofs.lemmas.List.Elements.{All-tail}
 use Rattle.dt_graph.specs.InOrder.{StrictOrder, Ascends, insert_by_key, find_at, without}
-use Rattle.dt_graph.proofs.InOrder.{first_before_all, Ascends-tail, none_found, without_none}
+use Rattle.dt_graph.proofs.InOrder.{first_before_all, before_first, Ascends-tail, none_found, not_again, without_none}
+use Rattle.dt_graph.proofs.ListMembers.{by_cases}
 use Rattle.dt_definitions.specs.Search.{first_place, Searched}
 
 module _ {X K : Type 0} (key : X → K) (before same : K → K → Bool) (order : StrictOrder before same) where
   -- ---- the order
 
   not_both : (a b : K) → IsTrue (before a b) → before b a ≡ false
-  not_both a b h = elim (before b a) as (λ t. before b a ≡ t → t ≡ false) [
-    | true ↦ λ back. absurd (false≢true (sym (order.irreflexive a) ∙ order.transitive a b a h back))
-    | false ↦ λ _. refl
-  ] refl
+  not_both a b h = let back = order.transitive a b a h in let own = order.irreflexive a in grind arith
 
   other : (a k : K) → IsTrue (before a k) → same k a ≡ false
-  other a k h = elim (same k a) as (λ t. same k a ≡ t → t ≡ false) [
-    | true ↦ λ s. absurd (false≢true (sym (order.irreflexive a) ∙ subst (λ q. before a q ≡ true) (order.equal k a s) h))
-    | false ↦ λ _. refl
-  ] refl
+  other a k h = let alike = order.equal k a in let own = order.irreflexive a in grind arith
 
   same_stays : (k a : K) → IsTrue (same k a) → before k a ≡ false
   same_stays k a s = subst (λ q. before k q ≡ false) (order.equal k a s) (order.irreflexive k)
 
   swapped : (a b : K) → same a b ≡ false → same b a ≡ false
-  swapped a b h = elim (same b a) as (λ t. same b a ≡ t → t ≡ false) [
-    | true ↦ λ s. absurd (false≢true (sym h ∙ subst (λ q. same a q ≡ true) (sym (order.equal b a s)) (order.reflexive a)))
-    | false ↦ λ _. refl
-  ] refl
+  swapped a b h = let alike = order.equal b a in let own = order.reflexive a in grind arith
 
   -- ---- the first place
 
@@ -63,34 +54,24 @@ module _ {X K : Type 0} (key : X → K) (before same : K → K → Bool) (order 
       → IsTrue (same k (key (get_or xs (first_place key before k xs) d)))
       → find_at key same k xs ≡ Some (get_or xs (first_place key before k xs) d)
   found_first k [] d u l s = absurd (omega arith)
-  found_first k (x ∷ xs) d u l s =
-      let rest = first_place key before k xs in
-      elim (before (key x) k) as (λ t. before (key x) k ≡ t → cond t (suc rest) 0 < suc (length xs)
-      → IsTrue (same k (key (get_or (x ∷ xs) (cond t (suc rest) 0) d)))
-      → find_at key same k (x ∷ xs) ≡ Some (get_or (x ∷ xs) (cond t (suc rest) 0) d)) [
-        | true ↦ λ b l s. rw (other (key x) k b) (found_first k xs d (Ascends-tail key before same order x xs u) (omega arith) s)
-        | false ↦ λ b l s. rw s refl
-      ] refl l s
+  found_first k (x ∷ xs) d u l s = by_cases (before (key x) k)
+      (λ b. rw (b, other (key x) k b) (found_first k xs d (Ascends-tail key before same order x xs u) (omega (arith, rw b at l)) (rw b at s)))
+      (λ b. let here : IsTrue (same k (key x)) = rw b at s in rw (b, here) refl)
 
   -- what stands behind the key's place is another
   none_behind : (k : K) (x : X) (xs : List X) → Ascends key before (x ∷ xs) → IsTrue (before k (key x)) → find_at key same k xs ≡ None
-  none_behind k x xs u b =
-      none_found key before same order k xs
-      (All-weaker (λ y. IsTrue (before (key x) (key y))) (λ y. IsTrue (before k (key y)))
-      (λ y l. order.transitive k (key x) (key y) b l) xs (first_before_all key before same order x xs u))
+  none_behind k x xs u b = none_found key before same order k xs
+      (All-tail (λ y. IsTrue (before k (key y))) x xs (before_first key before same order k x xs u b))
 
   absent_first : (k : K) (xs : List X) (d : X)
       → Ascends key before xs → first_place key before k xs < length xs
       → same k (key (get_or xs (first_place key before k xs) d)) ≡ false
       → find_at key same k xs ≡ None
   absent_first k [] d u l s = refl
-  absent_first k (x ∷ xs) d u l s =
-      let rest = first_place key before k xs in
-      elim (before (key x) k) as (λ t. before (key x) k ≡ t → cond t (suc rest) 0 < suc (length xs)
-      → same k (key (get_or (x ∷ xs) (cond t (suc rest) 0) d)) ≡ false → find_at key same k (x ∷ xs) ≡ None) [
-        | true ↦ λ b l s. rw (other (key x) k b) (absent_first k xs d (Ascends-tail key before same order x xs u) (omega arith) s)
-        | false ↦ λ b l s. rw s (none_behind k x xs u (order.total (key x) k b (swapped k (key x) s)))
-      ] refl l s
+  absent_first k (x ∷ xs) d u l s = by_cases (before (key x) k)
+      (λ b. rw (other (key x) k b) (absent_first k xs d (Ascends-tail key before same order x xs u) (omega (arith, rw b at l)) (rw b at s)))
+      (λ b. let apart : same k (key x) ≡ false = rw b at s in
+      rw apart (none_behind k x xs u (order.total (key x) k b (swapped k (key x) apart))))
 
   pub absent_end : (k : K) (xs : List X) → length xs ≤ first_place key before k xs → find_at key same k xs ≡ None
   absent_end k [] l = refl
@@ -129,16 +110,11 @@ module _ {X K : Type 0} (key : X → K) (before same : K → K → Bool) (order 
       → IsTrue (same k (key (get_or xs (first_place key before k xs) d)))
       → remove xs (first_place key before k xs) ≡ without key same k xs
   remove_first k [] d u l s = absurd (omega arith)
-  remove_first k (x ∷ xs) d u l s =
-      let rest = first_place key before k xs in
-      elim (before (key x) k) as (λ t. before (key x) k ≡ t → cond t (suc rest) 0 < suc (length xs)
-      → IsTrue (same k (key (get_or (x ∷ xs) (cond t (suc rest) 0) d)))
-      → remove (x ∷ xs) (cond t (suc rest) 0) ≡ without key same k (x ∷ xs)) [
-        | true ↦ λ b l s. rw (other (key x) k b)
-            (ap (λ ys. x ∷ ys) (remove_first k xs d (Ascends-tail key before same order x xs u) (omega arith) s))
-        | false ↦ λ b l s. rw s (sym (without_none key before same order k xs (none_found key before same order k xs
-            (subst (λ q. All (λ y. IsTrue (before q (key y))) xs) (sym (order.equal k (key x) s)) (first_before_all key before same order x xs u)))))
-      ] refl l s
+  remove_first k (x ∷ xs) d u l s = by_cases (before (key x) k)
+      (λ b. rw (b, other (key x) k b) (ap (λ ys. x ∷ ys)
+      (remove_first k xs d (Ascends-tail key before same order x xs u) (omega (arith, rw b at l)) (rw b at s))))
+      (λ b. let here : IsTrue (same k (key x)) = rw b at s in
+      rw (b, here) (sym (without_none key before same order k xs (not_again key before same order k x xs u here))))
 
   -- ---- the same, by what a search read and answered
 

@@ -1,13 +1,13 @@
 -- Steps of edits: what a cause, or none, says of a step; how many definitions a step leaves.
 use Rattle.std.proofs.Common.{◌≡◌, ℕ, ◌≤◌, Bool, true, false, not, List, [], ◌∷◌, length, filter, option_map, Option, Some, None, is_none, Ok, Err, IsTrue, refl, sym, ap, ◌∙◌, arith, leb, ◌&&◌}
 use Rattle.std.specs.List.{list_any}
-use Rattle.std.proofs.lemmas.Bool.{leb-false}
+use Rattle.std.proofs.lemmas.Bool.Decides.{nat_tests}
 use Rattle.dt_graph.specs.Refusal.{cause_if, first_cause, ok_unless}
 use Rattle.dt_graph.specs.GraphChange.{first_unknown}
 use Rattle.dt_selectors.specs.Selectors.{has_selector}
 use Rattle.dt_definitions.specs.Program.{Definition, Program, is_definition, insert_definition, key_of, is_key_before, is_same_key}
 use Rattle.dt_definitions.specs.Lawful.{AscendingDefinitions}
-use Rattle.dt_definitions.specs.Step.{why_of, has_definition, arity_differs, refusal, effect, step, with_definitions}
+use Rattle.dt_definitions.specs.Step.{why_of, has_definition, arity_differs, refusal, effect, step_edit, with_definitions}
 use Rattle.dt_definitions.specs.Memory.{may_want_memory}
 use Rattle.dt_definitions.specs.declared.limits.TheConstants.{DEFINITIONS}
 use Rattle.dt_definitions.specs.declared.edit.Edit.{Edit}
@@ -16,12 +16,12 @@ use Rattle.dt_graph.specs.declared.graph_fault.GraphFault.{GraphFault}
 use Rattle.dt_definitions.specs.declared.why.Why.{Why}
 use Rattle.dt_definitions.specs.declared.why.Why.TheVariants as why
 use Rattle.dt_definitions.proofs.DefinitionOrder.{key_order}
-use Rattle.dt_definitions.proofs.Lengths.{length-insert_new, length-insert_again}
+use Rattle.dt_definitions.proofs.Keys.{length-insert_new, length-insert_again}
 
-pub refused : (p : Program) (edit : Edit) (cause : Why) → Some cause ≡ refusal p edit → step p edit ≡ Err cause
+pub refused : (p : Program) (edit : Edit) (cause : Why) → Some cause ≡ refusal p edit → step_edit p edit ≡ Err cause
 refused p edit cause h = ap (λ r. ok_unless r (effect p edit)) (sym h)
 
-pub accepted : (p : Program) (edit : Edit) → None ≡ refusal p edit → step p edit ≡ Ok (effect p edit)
+pub accepted : (p : Program) (edit : Edit) → None ≡ refusal p edit → step_edit p edit ≡ Ok (effect p edit)
 accepted p edit h = ap (λ r. ok_unless r (effect p edit)) (sym h)
 
 -- no cause of a list holds
@@ -46,12 +46,7 @@ pub few-insert : (d : Definition) (ds : List Definition)
 few-insert d ds u l h =
     let n = length-insert_new key_of is_key_before is_same_key key_order d ds in
     let a = length-insert_again key_of is_key_before is_same_key key_order d ds u in
-    elim (list_any (is_definition d.selector d.classes) ds) as (λ t. list_any (is_definition d.selector d.classes) ds ≡ t → (leb DEFINITIONS (length ds) && not t) ≡ false → length (insert_definition d ds) ≤ DEFINITIONS) [
-      | true ↦ λ there _. omega (arith, a there)
-      | false ↦ λ absent full.
-          let few : leb DEFINITIONS (length ds) ≡ false = grind arith in
-          omega (arith, n absent, leb-false DEFINITIONS (length ds) few)
-    ] refl h
+    grind (arith, nat_tests)
 
 pub few-filter : (p : Definition → Bool) (ds : List Definition) → length (filter p ds) ≤ length ds
 few-filter p [] = omega arith
@@ -89,7 +84,7 @@ may_define p selector classes body h =
 pub defined_step : (p : Program) (s : ℕ) (cs : List ℕ) (body : ℕ) (new : List Definition)
     → None ≡ refusal p (Define s cs body)
     → new ≡ insert_definition (record { selector = s; classes = cs; body = body }) p.definitions
-    → step p (Define s cs body) ≡ Ok (with_definitions p new)
+    → step_edit p (Define s cs body) ≡ Ok (with_definitions p new)
 defined_step p s cs body new h e = accepted p (Define s cs body) h ∙ rw e refl
 
 -- a definition that may be made, and isn't there yet, may want memory

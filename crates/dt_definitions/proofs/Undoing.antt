@@ -4,11 +4,11 @@ use Rattle.std.proofs.lemmas.Bool.{false≢true}
 use Rattle.std.proofs.lemmas.List.{reverse-append, drop_more, take_more}
 use Rattle.dt_definitions.specs.Program.{Program, empty_program, arity_of, body_of}
 use Rattle.dt_definitions.specs.SelectorLists.{Rooms, Definitions, HasRoomFor, RoomStays}
-use Rattle.dt_definitions.specs.Step.{refusal, step, effect, step_from, and_then, Refused, Applies}
+use Rattle.dt_definitions.specs.Step.{refusal, step_edit, effect, step_from, and_then, Refused, Applies}
 use Rattle.dt_definitions.specs.Memory.{undoing_takes_memory, NoMemoryOnlyWhere}
 use Rattle.dt_definitions.specs.Undo.{inverse, arity_again, body_again, kept_of, undoing, LeadsBack, HasRoom, HasRooms}
 use Rattle.dt_definitions.specs.declared.edit.Edit.{Edit}
-use Rattle.dt_definitions.specs.declared.edit.Edit.TheVariants.{AddClass, DropClass, Link, Unlink, AddSelector, DropSelector, Define, Undefine}
+use Rattle.dt_definitions.specs.declared.edit.Edit.TheVariants.{AddClass, Link, Unlink, AddSelector, DropSelector, Define, Undefine}
 use Rattle.dt_definitions.specs.declared.why.ApplyFault.{ApplyFault}
 use Rattle.dt_definitions.specs.declared.why.ApplyFault.TheVariants as apply_fault
 use Rattle.dt_definitions.proofs.AnswerLaws.{ok_has_no_cause}
@@ -23,13 +23,10 @@ done_more edits i edit l r =
 -- what undoes the edit, where it tells that, is the same in every program
 told : (p : Program) (edit : Edit) → undoing_takes_memory edit ≡ false → inverse empty_program edit ≡ inverse p edit
 told p (AddClass class parents) h = refl
-told p (DropClass class) h = absurd (false≢true (sym h))
 told p (Link class parent) h = refl
 told p (Unlink class parent) h = refl
 told p (AddSelector selector arity) h = refl
-told p (DropSelector selector) h = absurd (false≢true (sym h))
-told p (Define selector classes body) h = absurd (false≢true (sym h))
-told p (Undefine selector classes) h = absurd (false≢true (sym h))
+told p edit h = absurd (false≢true (sym h))
 
 -- with what was kept of it an edit is undone by its inverse, and then the earlier ones
 pub undoing_more : (p : Program) (edit : Edit) (earlier kept : List Edit)
@@ -49,11 +46,6 @@ room_again ds selector classes (Some body) h = h
 
 -- the room that there was for an edit is room for its inverse
 pub room_back : (p : Program) (definitions : Definitions) (edit : Edit) → HasRoom definitions edit → HasRoom definitions (inverse p edit)
-room_back p ds (AddClass class parents) h = tt
-room_back p ds (DropClass class) h = tt
-room_back p ds (Link class parent) h = tt
-room_back p ds (Unlink class parent) h = tt
-room_back p ds (AddSelector selector arity) h = tt
 room_back p ds (DropSelector selector) h = again (arity_of p selector)
   where
     again : (arity : Option ℕ) → HasRoom ds (arity_again selector arity)
@@ -61,6 +53,7 @@ room_back p ds (DropSelector selector) h = again (arity_of p selector)
     again (Some arity) = tt
 room_back p ds (Define selector classes body) h = room_again ds selector classes (body_of p.definitions selector classes) h
 room_back p ds (Undefine selector classes) h = room_again ds selector classes (body_of p.definitions selector classes) h
+room_back p ds edit h = tt
 
 -- more room is as good
 room_for_more : (p : Program) (rooms more : Rooms) (selector : ℕ) (classes : List ℕ) → RoomStays rooms more
@@ -73,14 +66,9 @@ room_for_more p rooms more selector classes s h = λ absent.
 
 room_more : (p : Program) (rooms more : Rooms) (edit : Edit) → RoomStays rooms more
     → HasRoom (record { all = p.definitions; rooms = rooms }) edit → HasRoom (record { all = p.definitions; rooms = more }) edit
-room_more p rooms more (AddClass class parents) s h = tt
-room_more p rooms more (DropClass class) s h = tt
-room_more p rooms more (Link class parent) s h = tt
-room_more p rooms more (Unlink class parent) s h = tt
-room_more p rooms more (AddSelector selector arity) s h = tt
-room_more p rooms more (DropSelector selector) s h = tt
 room_more p rooms more (Define selector classes body) s h = room_for_more p rooms more selector classes s h
 room_more p rooms more (Undefine selector classes) s h = room_for_more p rooms more selector classes s h
+room_more p rooms more edit s h = tt
 
 pub rooms_more : (log : List Edit) (p : Program) (rooms more : Rooms) → RoomStays rooms more → HasRooms rooms p log → HasRooms more p log
 rooms_more [] p rooms more s h = tt
@@ -89,7 +77,7 @@ rooms_more (edit ∷ log) p rooms more s h =
 
 -- the rest of a batch after an edit that was applied, and after one that was refused
 pub rest_applied : (edits : List Edit) (i : ℕ) (edit : Edit) (old new : Program) (whole : Result Program Refused)
-    → i < length edits → edit ≡ get_or edits i edit → step old edit ≡ Ok new
+    → i < length edits → edit ≡ get_or edits i edit → step_edit old edit ≡ Ok new
     → step_from (i + 1) old (drop i edits) ≡ whole → step_from (i + 1 + 1) new (drop (i + 1) edits) ≡ whole
 rest_applied edits i edit old new whole l r h rest =
     let d : drop i edits ≡ edit ∷ drop (i + 1) edits = drop_more edits i edit l ∙ ap (λ e. e ∷ drop (i + 1) edits) (sym r) in
@@ -105,13 +93,13 @@ surely_made old new edit (Err (apply_fault.Refused why)) none applies enough =
 surely_made old new edit (Err apply_fault.NoMemory) none applies enough = absurd (false≢true enough)
 
 -- after the last of the edits that undo
-pub one_back : (p q old : Program) (inverse : Edit) (log rest : List Edit) → log ≡ inverse ∷ rest → step p inverse ≡ Ok q
+pub one_back : (p q old : Program) (inverse : Edit) (log rest : List Edit) → log ≡ inverse ∷ rest → step_edit p inverse ≡ Ok q
     → LeadsBack p log old → LeadsBack q rest old
 one_back p q old inverse log rest same made back =
     let tail = (subst (λ l. LeadsBack p l old) same back).1 in
     subst (λ r. LeadsBack r rest old) (sym (ok_has_no_cause p q inverse made).1) tail
 
-pub rooms_back : (p q : Program) (inverse : Edit) (log rest : List Edit) (rooms more : Rooms) → log ≡ inverse ∷ rest → step p inverse ≡ Ok q
+pub rooms_back : (p q : Program) (inverse : Edit) (log rest : List Edit) (rooms more : Rooms) → log ≡ inverse ∷ rest → step_edit p inverse ≡ Ok q
     → RoomStays rooms more → HasRooms rooms p log → HasRooms more q rest
 rooms_back p q inverse log rest rooms more same made stays has =
     let tail = (subst (HasRooms rooms p) same has).1 in

@@ -6,12 +6,12 @@ use Rattle.dt_definitions.specs.declared.why.ApplyFault.{ApplyFault}
 use Rattle.dt_definitions.specs.declared.why.ApplyFault.TheVariants as apply_fault
 use Rattle.dt_definitions.specs.declared.why.BatchFault.{BatchFault}
 use Rattle.dt_definitions.specs.declared.why.BatchFault.TheVariants as batch_fault
-use Rattle.dt_definitions.specs.History.{step, step_batch}
+use Rattle.dt_definitions.specs.History.{step_edit, step_batch}
 
 -- what the answer of an edit says of the programs before and after it; want of memory may come instead of any
 abbrev pub Applies : Program → Edit → Program → Result (Unit {0}) ApplyFault → Type 0
-Applies old edit new (Ok _) = step old edit ≡ Ok new
-Applies old edit new (Err (apply_fault.Refused why)) = (step old edit ≡ Err why) × (new ≡ old)
+Applies old edit new (Ok _) = step_edit old edit ≡ Ok new
+Applies old edit new (Err (apply_fault.Refused why)) = (step_edit old edit ≡ Err why) × (new ≡ old)
 Applies old edit new (Err apply_fault.NoMemory) = new ≡ old
 
 -- what the answer of a batch says of the programs before and after it; want of memory may come instead of any

@@ -2,7 +2,7 @@
 use Rattle.std.specs.Prelude.{◌≡◌, ℕ, List, [], ◌∷◌, replicate, Ok, Err, refl}
 use Rattle.dt_graph.specs.Graph.{Link}
 use Rattle.dt_definitions.specs.Program.{Definition, Program, empty_program, definitions_of}
-use Rattle.dt_definitions.specs.Step.{step, step_batch, stepped, after}
+use Rattle.dt_definitions.specs.Step.{step_edit, step_batch, stepped, after}
 use Rattle.dt_definitions.specs.declared.edit.Edit.{Edit}
 use Rattle.dt_definitions.specs.declared.edit.Edit.TheVariants as edit
 use Rattle.dt_definitions.specs.declared.why.Why.TheVariants as why
@@ -68,7 +68,7 @@ in_one_batch_or_in_many = refl
 
 -- ---- edits of it
 
-a_squircle_is_no_circle_any_more : step diamond (edit.Unlink squircle circle) ≡ Ok (record {
+a_squircle_is_no_circle_any_more : step_edit diamond (edit.Unlink squircle circle) ≡ Ok (record {
   graph = record {
     classes = shape ∷ circle ∷ square ∷ squircle ∷ [];
     links = to circle shape ∷ to square shape ∷ to squircle square ∷ [];
@@ -78,14 +78,14 @@ a_squircle_is_no_circle_any_more : step diamond (edit.Unlink squircle circle) �
 })
 a_squircle_is_no_circle_any_more = refl
 
-a_definition_is_replaced : step diamond (edit.Define draw (circle ∷ []) 66) ≡ Ok (record {
+a_definition_is_replaced : step_edit diamond (edit.Define draw (circle ∷ []) 66) ≡ Ok (record {
   graph = diamond.graph;
   selectors = diamond.selectors;
   definitions = at draw circle 66 ∷ at draw square 62 ∷ [];
 })
 a_definition_is_replaced = refl
 
-a_definition_goes : step diamond (edit.Undefine draw (circle ∷ [])) ≡ Ok (record {
+a_definition_goes : step_edit diamond (edit.Undefine draw (circle ∷ [])) ≡ Ok (record {
   graph = diamond.graph;
   selectors = diamond.selectors;
   definitions = at draw square 62 ∷ [];
@@ -101,42 +101,42 @@ in_order = refl
 
 -- ---- refusals
 
-a_cycle : step diamond (edit.Link shape squircle) ≡ Err why.Cycle
+a_cycle : step_edit diamond (edit.Link shape squircle) ≡ Err why.Cycle
 a_cycle = refl
 
-a_class_below_itself : step diamond (edit.Link shape shape) ≡ Err why.Cycle
+a_class_below_itself : step_edit diamond (edit.Link shape shape) ≡ Err why.Cycle
 a_class_below_itself = refl
 
-seventeen_parents : step diamond (edit.AddClass other (replicate 17 shape)) ≡ Err why.TooManyParents
+seventeen_parents : step_edit diamond (edit.AddClass other (replicate 17 shape)) ≡ Err why.TooManyParents
 seventeen_parents = refl
 
-a_parent_twice : step diamond (edit.AddClass other (circle ∷ square ∷ circle ∷ [])) ≡ Err (why.ParentTwice circle)
+a_parent_twice : step_edit diamond (edit.AddClass other (circle ∷ square ∷ circle ∷ [])) ≡ Err (why.ParentTwice circle)
 a_parent_twice = refl
 
-a_class_with_subclasses_stays : step diamond (edit.DropClass square) ≡ Err (why.HasSubclasses squircle)
+a_class_with_subclasses_stays : step_edit diamond (edit.DropClass square) ≡ Err (why.HasSubclasses squircle)
 a_class_with_subclasses_stays = refl
 
-a_class_that_a_definition_names_stays : step (stepped diamond (edit.Define draw (squircle ∷ []) 63 ∷ [])) (edit.DropClass squircle)
+a_class_that_a_definition_names_stays : step_edit (stepped diamond (edit.Define draw (squircle ∷ []) 63 ∷ [])) (edit.DropClass squircle)
     ≡ Err why.HasDefinitions
 a_class_that_a_definition_names_stays = refl
 
-a_selector_with_definitions_stays : step diamond (edit.DropSelector draw) ≡ Err why.HasDefinitions
+a_selector_with_definitions_stays : step_edit diamond (edit.DropSelector draw) ≡ Err why.HasDefinitions
 a_selector_with_definitions_stays = refl
 
-a_live_selector_is_not_added : step diamond (edit.AddSelector draw 2) ≡ Err why.SelectorExists
+a_live_selector_is_not_added : step_edit diamond (edit.AddSelector draw 2) ≡ Err why.SelectorExists
 a_live_selector_is_not_added = refl
 
 -- the number of arguments is asked for before the classes, and the classes before the definition
-two_classes_for_one_argument : step diamond (edit.Define draw (other ∷ circle ∷ []) 69) ≡ Err why.ArityDiffers
+two_classes_for_one_argument : step_edit diamond (edit.Define draw (other ∷ circle ∷ []) 69) ≡ Err why.ArityDiffers
 two_classes_for_one_argument = refl
 
-at_a_class_that_is_not_live : step diamond (edit.Undefine draw (other ∷ [])) ≡ Err (why.ClassUnknown other)
+at_a_class_that_is_not_live : step_edit diamond (edit.Undefine draw (other ∷ [])) ≡ Err (why.ClassUnknown other)
 at_a_class_that_is_not_live = refl
 
-no_such_definition : step diamond (edit.Undefine draw (shape ∷ [])) ≡ Err why.NoDefinition
+no_such_definition : step_edit diamond (edit.Undefine draw (shape ∷ [])) ≡ Err why.NoDefinition
 no_such_definition = refl
 
-no_such_selector : step diamond (edit.Undefine collide (other ∷ [])) ≡ Err why.SelectorUnknown
+no_such_selector : step_edit diamond (edit.Undefine collide (other ∷ [])) ≡ Err why.SelectorUnknown
 no_such_selector = refl
 
 -- ---- a batch is refused by its first refused edit, and keeps nothing

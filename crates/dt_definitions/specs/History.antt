@@ -9,8 +9,8 @@ use Rattle.dt_definitions.specs.Causes.{refusal}
 use Rattle.dt_definitions.specs.Effect.{effect}
 
 -- the step of an edit: the new program, or the refusal
-abbrev pub step : Program → Edit → Result Program Why
-step p edit = ok_unless (refusal p edit) (effect p edit)
+abbrev pub step_edit : Program → Edit → Result Program Why
+step_edit p edit = ok_unless (refusal p edit) (effect p edit)
 
 -- the first refusal in a batch: the place of the edit, from 1, and why
 pub record Refused : Type 0 where
@@ -25,7 +25,7 @@ and_then (Err why) place rest = Err (record { at = place; why = why })
 -- the step of the rest of a batch, whose first edit has this place
 abbrev pub step_from : ℕ → Program → List Edit → Result Program Refused
 step_from place p [] = Ok p
-step_from place p (edit ∷ edits) = and_then (step p edit) place (λ q. step_from (place + 1) q edits)
+step_from place p (edit ∷ edits) = and_then (step_edit p edit) place (λ q. step_from (place + 1) q edits)
 
 -- the step of a batch: its edits in order, each on the program that the earlier ones left, or the first refusal
 abbrev pub step_batch : Program → List Edit → Result Program Refused

@@ -2,14 +2,14 @@
 use Rattle.std.specs.Prelude.{◌≡◌, ℕ, ◌+◌, false, if◌then◌else◌, List, [], ◌∷◌, ◌++◌, length, None, Some, Ok, Err}
 use Rattle.dt_definitions.specs.Program.{Definition, Program, is_definition, body_of}
 use Rattle.dt_definitions.specs.Lawful.{Lawful, IsInRange}
-use Rattle.dt_definitions.specs.Step.{step, step_batch, after, Refused}
+use Rattle.dt_definitions.specs.Step.{step_edit, step_batch, after, Refused}
 use Rattle.dt_definitions.specs.declared.edit.Edit.{Edit}
 use Rattle.dt_definitions.specs.declared.edit.Edit.TheVariants.{Define, Undefine}
 
 -- made one by one, the edits are all accepted, and lead from the first program to the second
 abbrev pub LeadsTo : Program → List Edit → Program → Type 0
 LeadsTo p [] q = p ≡ q
-LeadsTo p (edit ∷ edits) q = (next : Program) × (step p edit ≡ Ok next) × LeadsTo next edits q
+LeadsTo p (edit ∷ edits) q = (next : Program) × (step_edit p edit ≡ Ok next) × LeadsTo next edits q
 
 -- made one by one, the edits before the refused one are accepted, and that one is refused for its cause
 pub record StopsAt (p : Program) (edits : List Edit) (refused : Refused) : Type 0 where
@@ -20,7 +20,7 @@ pub record StopsAt (p : Program) (edits : List Edit) (refused : Refused) : Type 
   pub whole : edits ≡ before ++ edit ∷ later
   pub place : refused.at ≡ length before + 1
   pub accepted : LeadsTo p before reached
-  pub cause : step reached edit ≡ Err refused.why
+  pub cause : step_edit reached edit ≡ Err refused.why
 
 -- where a batch is accepted its edits are, made one by one, and lead to the same program
 abbrev pub BatchIsItsEdits : Type 0
@@ -44,13 +44,13 @@ the selector classes body = record { selector = selector; classes = classes; bod
 
 -- a definition sets the body at its own selector and classes, and nowhere else
 abbrev pub DefineSetsOneBody : Type 0
-DefineSetsOneBody = (p q : Program) (selector : ℕ) (classes : List ℕ) (body : ℕ) → step p (Define selector classes body) ≡ Ok q
+DefineSetsOneBody = (p q : Program) (selector : ℕ) (classes : List ℕ) (body : ℕ) → step_edit p (Define selector classes body) ≡ Ok q
     → (other : ℕ) (at : List ℕ) → body_of q.definitions other at
     ≡ (if is_definition other at (the selector classes body) then Some body else body_of p.definitions other at)
 
 -- a definition that goes leaves no body at its selector and classes, and every other as it was
 abbrev pub UndefineClearsOneBody : Type 0
-UndefineClearsOneBody = (p q : Program) (selector : ℕ) (classes : List ℕ) → step p (Undefine selector classes) ≡ Ok q
+UndefineClearsOneBody = (p q : Program) (selector : ℕ) (classes : List ℕ) → step_edit p (Undefine selector classes) ≡ Ok q
     → (other : ℕ) (at : List ℕ) → body_of q.definitions other at
     ≡ (if is_definition other at (the selector classes 0) then None else body_of p.definitions other at)
 

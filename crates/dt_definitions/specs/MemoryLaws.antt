@@ -2,7 +2,7 @@
 use Rattle.std.specs.Prelude.{◌≡◌, ◌+◌, Bool, false, IsTrue, length, Ok, Err}
 use Rattle.dt_definitions.specs.Program.{Program}
 use Rattle.dt_definitions.specs.Lawful.{Lawful}
-use Rattle.dt_definitions.specs.Step.{step}
+use Rattle.dt_definitions.specs.Step.{step_edit}
 use Rattle.dt_definitions.specs.Memory.{may_want_memory, NoMemoryOnlyWhere, BatchNoMemoryOnlyWhere}
 use Rattle.dt_definitions.specs.AnswerLaws.{EditAnswer, BatchAnswer, IsDecided, IsDecidedBatch}
 use Rattle.dt_definitions.specs.declared.edit.Edit.{Edit}
@@ -10,17 +10,17 @@ use Rattle.dt_definitions.specs.declared.why.Why.{Why}
 
 -- an edit that is accepted takes memory where it leaves one definition more
 abbrev pub OneMoreTakesMemory : Type 0
-OneMoreTakesMemory = (p q : Program) (edit : Edit) → Lawful p → step p edit ≡ Ok q
+OneMoreTakesMemory = (p q : Program) (edit : Edit) → Lawful p → step_edit p edit ≡ Ok q
     → length q.definitions ≡ length p.definitions + 1 → IsTrue (may_want_memory p edit)
 
 -- and nowhere else
 abbrev pub MemoryIsForOneMore : Type 0
-MemoryIsForOneMore = (p q : Program) (edit : Edit) → step p edit ≡ Ok q → IsTrue (may_want_memory p edit)
+MemoryIsForOneMore = (p q : Program) (edit : Edit) → step_edit p edit ≡ Ok q → IsTrue (may_want_memory p edit)
     → length q.definitions ≡ length p.definitions + 1
 
 -- an edit that is refused takes none
 abbrev pub RefusedEditsTakeNone : Type 0
-RefusedEditsTakeNone = (p : Program) (edit : Edit) (why : Why) → step p edit ≡ Err why → may_want_memory p edit ≡ false
+RefusedEditsTakeNone = (p : Program) (edit : Edit) (why : Why) → step_edit p edit ≡ Err why → may_want_memory p edit ≡ false
 
 -- where the test fails, the answer of an edit isn't want of memory
 abbrev pub WithoutTheTestDecided : Type 0

@@ -4,7 +4,7 @@ ghost use Rattle.std.specs.Prelude.{◌≡◌, Ok};
 ghost use Rattle.dt_definitions.specs.declared.edit.Edit.{Edit};
 ghost use Rattle.dt_definitions.specs.Program.{Program, empty_program};
 ghost use Rattle.dt_definitions.specs.Lawful.{Lawful, IsInRange};
-ghost use Rattle.dt_definitions.specs.Step.{step};
+ghost use Rattle.dt_definitions.specs.Step.{step_edit};
 ghost use Rattle.dt_definitions.specs.ProgramLaws.{LiveClassesAreInRange, DefinitionsFit, DefinitionsStandOnce, BodiesAreInRange, NoClassIsAboveItself};
 ghost use Rattle.dt_definitions.specs.Laws.{BatchIsItsEdits, EditsAreABatch, BatchStopsAtItsEdit, EditsStopABatch, DefineSetsOneBody, UndefineClearsOneBody, DefinesCommute, HistoriesAreLawful};
 ghost use Rattle.dt_definitions.specs.BatchLaws.{BatchesDifferWhereTheySay, BatchesKeepLaw, HistoriesGoOnByOne};
@@ -55,7 +55,7 @@ pub fn new_definitions_take_memory()
 pub fn steps_keep_law()
     ensures empty { Lawful empty_program }
     ensures step { (old : Program) (edit : Edit) (new : Program) → Lawful old → IsInRange edit
-        → step old edit ≡ Ok new → Lawful new }
+        → step_edit old edit ≡ Ok new → Lawful new }
 {}
 
 /// A batch is accepted exactly where its edits are, made one by one; and it is refused at the first of them that is

@@ -2,7 +2,7 @@ ghost use Rattle.std.specs.Prelude.{◌≡◌, ◌∷◌, ◌++◌, List, revers
 ghost use Rattle.dt_definitions.specs.Parts.{program_of};
 ghost use Rattle.dt_definitions.specs.Program.{Program};
 ghost use Rattle.dt_definitions.specs.Lawful.{Lawful};
-ghost use Rattle.dt_definitions.specs.Step.{refusal, step, Applies};
+ghost use Rattle.dt_definitions.specs.Step.{refusal, step_edit, Applies};
 ghost use Rattle.dt_definitions.specs.Memory.{undoing_takes_memory, NoMemoryOnlyWhere};
 ghost use Rattle.dt_definitions.specs.SelectorLists.{RoomStays};
 ghost use Rattle.dt_definitions.specs.Undo.{inverse, kept_of, undoing, LeadsBack, HasRoom, HasRooms};
@@ -120,7 +120,7 @@ impl Parts {
     // The edit, which isn't refused. It succeeds where the definitions have room.
     fn make(&mut self, edit: Edit) -> Result<(), NoMemory>
         requires lawful { Lawful (program_of self.old) }
-        ensures ok { OnOk result (step (program_of self.old) edit ≡ Ok (program_of self.new)) }
+        ensures ok { OnOk result (step_edit (program_of self.old) edit ≡ Ok (program_of self.new)) }
         ensures lawful { Lawful (program_of self.new) }
         ensures succeeds { refusal (program_of self.old) edit ≡ None → HasRoom self.old.definitions edit → IsOk result }
         ensures room_stays { RoomStays self.old.definitions.rooms self.new.definitions.rooms }

@@ -1,12 +1,13 @@
 -- Rows of class sets of which those in some places are changed, and what that makes of the two lists of an ancestry.
-use Rattle.std.proofs.Common.{◌≡◌, ℕ, ◌+◌, ◌<◌, Bool, true, false, cond, not, ◌&&◌, ◌||◌, nat_lt, List, [], length, get_or, set, None, Some, refl, sym, ap, ◌∙◌, arith, lt-ltb, inl, inr}
-use Rattle.std.proofs.lemmas.Bool.{cases_eq, cases_lt, cond-true, cond-false, and_from, and_left, and_right, le-ltb}
+use Rattle.std.proofs.Common.{◌≡◌, ℕ, ◌+◌, ◌<◌, Bool, cond, not, ◌&&◌, ◌||◌, nat_lt, List, [], length, get_or, set, None, Some, sym, ap, ◌∙◌, arith, lt-ltb, inl, inr}
+use Rattle.std.proofs.lemmas.Bool.{cases_eq, cond-true, cond-false, and_from, and_right, le-ltb}
+use Rattle.std.proofs.lemmas.Bool.Decides.{nat_tests}
 use Rattle.std.proofs.lemmas.List.{get_or_default, get_or-set_same, get_or-set_other, length-set}
 use Rattle.dt_graph.specs.Graph.{has_number}
 use Rattle.dt_graph.specs.Lawful.{AscendingNumbers}
 use Rattle.dt_graph.specs.FirstFrom.{first_from}
 use Rattle.dt_graph.specs.Ancestry.{row_has}
-use Rattle.dt_graph.proofs.AscendingSets.{IsFirstFrom, first_some, first_none, and_true}
+use Rattle.dt_graph.proofs.AscendingSets.{IsFirstFrom, first_some, first_none}
 
 -- the rows in the places below the bound are changed as `change` says of each number's bit
 pub record IsChangedTo (change : Bool → ℕ → Bool) (old new : List (List ℕ)) (places : List ℕ) (least : ℕ) : Type 0 where
@@ -17,17 +18,7 @@ pub record IsChangedTo (change : Bool → ℕ → Bool) (old new : List (List �
 done_already : (places : List ℕ) (least place k : ℕ) → IsFirstFrom places least place → (k ≡ place → ⊥)
     → (has_number places k && nat_lt k least) ≡ (has_number places k && nat_lt k (place + 1))
 done_already places least place k first other =
-    let more = first.more in
-    elim (cases_lt k least) [
-      | inl before ↦
-          ap (λ t. has_number places k && t) (lt-ltb k least before ∙ sym (lt-ltb k (place + 1) (omega arith)))
-      | inr after ↦
-          and_right (has_number places k) (nat_lt k least) (le-ltb k least after)
-          ∙ sym (elim (cases_lt k place) [
-            | inl between ↦ and_left (has_number places k) (nat_lt k (place + 1)) (first.none_between k after between)
-            | inr past ↦ and_right (has_number places k) (nat_lt k (place + 1)) (le-ltb k (place + 1) (omega arith))
-          ])
-    ]
+    let more = first.more in let between = first.none_between k in grind (arith, nat_tests)
 
 pub IsChangedTo-more : (change : Bool → ℕ → Bool) (old rows : List (List ℕ)) (places : List ℕ) (least place next : ℕ) (default changed : List ℕ)
     → AscendingNumbers places → first_from least places ≡ Some place → next ≡ place → place < length rows
@@ -60,13 +51,7 @@ IsChangedTo-more change old rows places least place next default changed ascendi
 pub IsChangedTo-all : (change : Bool → ℕ → Bool) (old new : List (List ℕ)) (places : List ℕ) (least : ℕ) → first_from least places ≡ None → IsChangedTo change old new places least
     → (k n : ℕ) → row_has new k n ≡ cond (has_number places k) (change (row_has old k n) n) (row_has old k n)
 IsChangedTo-all change old new places least none so_far k n =
-    so_far.each k n
-    ∙ ap (λ t. cond t (change (row_has old k n) n) (row_has old k n)) (elim (cases_lt k least) [
-      | inl before ↦ and_true (has_number places k) (nat_lt k least) (lt-ltb k least before)
-      | inr after ↦
-          let unlisted = first_none places least none k after in
-          and_left (has_number places k) (nat_lt k least) unlisted ∙ sym unlisted
-    ])
+    let each = so_far.each k n in let unlisted = first_none places least none k in grind (arith, nat_tests)
 
 -- ---- what may change
 
@@ -77,11 +62,7 @@ abbrev pub without_all : List ℕ → Bool → ℕ → Bool
 without_all classes bit n = bit && not (has_number classes n)
 
 pub with_all_said : (place bit new : Bool) → cond place (bit || new) bit ≡ (bit || (place && new))
-with_all_said true bit new = refl
-with_all_said false true new = refl
-with_all_said false false new = refl
+with_all_said place bit new = grind arith
 
 pub without_one_said : (place bit gone : Bool) → cond place (bit && not gone) bit ≡ (bit && not (place && gone))
-without_one_said true bit gone = refl
-without_one_said false true gone = refl
-without_one_said false false gone = refl
+without_one_said place bit gone = grind arith

@@ -1,5 +1,5 @@
 -- Ascending numbers and links stay so where one is placed and where some are left out.
-use Rattle.std.proofs.Common.{◌≡◌, ◌==◌, ℕ, ◌<◌, Bool, IsTrue, List, ◌∷◌, filter, refl, ltb-true, lt-ltb, eqb-true, eq-eqb, nat_lt, arith, All}
+use Rattle.std.proofs.Common.{◌≡◌, ◌==◌, ℕ, ◌<◌, ◌≤◌, Bool, IsTrue, List, ◌∷◌, filter, refl, ltb-true, lt-ltb, eqb-true, eq-eqb, nat_lt, arith, All}
 use Rattle.std.proofs.lemmas.Bool.{and_parts}
 use Rattle.std.proofs.lemmas.Bool.Decides.{nat_tests}
 use Rattle.dt_graph.specs.InOrder.{StrictOrder}
@@ -30,6 +30,10 @@ AscendingNumbers-cons first numbers all ascending = Ascends-cons (λ n. n) nat_l
 pub first_is_lowest : (x : ℕ) (numbers : List ℕ) → AscendingNumbers (x ∷ numbers) → (n : ℕ) → IsTrue (has_number numbers n) → x < n
 first_is_lowest x numbers ascending n listed =
     ltb-true x n (each_number (λ m. IsTrue (nat_lt x m)) numbers (first_before_all (λ n. n) nat_lt (λ a b. a == b) number_order x numbers ascending) n listed)
+
+-- nor is any of the whole list
+pub first_is_least : (x : ℕ) (numbers : List ℕ) → AscendingNumbers (x ∷ numbers) → (n : ℕ) → IsTrue (has_number (x ∷ numbers) n) → x ≤ n
+first_is_least x numbers ascending n listed = let above = first_is_lowest x numbers ascending n in grind (arith, nat_tests)
 
 pub link_order : (a b c : Link) → IsTrue (is_link_before a b) → IsTrue (is_link_before b c) → IsTrue (is_link_before a c)
 link_order a b c first second = grind (arith, nat_tests)

@@ -1,6 +1,6 @@
 -- Ascending lists as sets: lists with the same numbers are equal, and the first number from a bound on.
-use Rattle.std.proofs.Common.{◌≡◌, ◌==◌, ℕ, ◌+◌, ◌<◌, ◌≤◌, Bool, true, false, ◌&&◌, ◌||◌, IsTrue, nat_le, List, [], ◌∷◌, ◌++◌, None, Some, All, filter, refl, sym, ap, ◌∙◌, ⊎_elim, arith, eq-eqb, ne_eqb, eqb-true, ltb-true, inl, inr, append_assoc, append-nil}
-use Rattle.std.proofs.lemmas.Bool.{or_cases, or_left, or_right, or_parts, or_from, cases_Bool, cases_eq, cases_order, cond-true, cond-false, false≢true, true≢false, false_from_ne_true, leb-true, leb-false}
+use Rattle.std.proofs.Common.{◌≡◌, ◌==◌, ℕ, ◌+◌, ◌<◌, ◌≤◌, Bool, true, false, ◌&&◌, IsTrue, nat_le, List, [], ◌∷◌, ◌++◌, None, Some, All, filter, refl, sym, ap, ◌∙◌, arith, eq-eqb, ltb-true, append_assoc, append-nil}
+use Rattle.std.proofs.lemmas.Bool.{or_left, or_parts, false≢true, true≢false, false_from_ne_true}
 use Rattle.dt_graph.specs.Graph.{has_number}
 use Rattle.dt_graph.specs.Lawful.{AscendingNumbers}
 use Rattle.dt_graph.specs.FirstFrom.{first_from}
@@ -34,41 +34,19 @@ pub none_again : (a : ℕ) (numbers : List ℕ) (n : ℕ) → AscendingNumbers (
 none_again a numbers n ascending less =
     false_from_ne_true (has_number numbers n) (λ listed. let more = first_is_lowest a numbers ascending n listed in omega arith)
 
-none_below : (a : ℕ) (numbers : List ℕ) (n : ℕ) → AscendingNumbers (a ∷ numbers) → n < a → has_number (a ∷ numbers) n ≡ false
-none_below a numbers n ascending less =
-    or_from (a == n) (has_number numbers n) (ne_eqb a n (λ e. omega arith)) (none_again a numbers n ascending (omega arith))
-
 abbrev SameNumbers : List ℕ → List ℕ → Type 0
 SameNumbers first second = (n : ℕ) → has_number first n ≡ has_number second n
 
-starts_alike : (a b : ℕ) (first second : List ℕ) → AscendingNumbers (a ∷ first) → AscendingNumbers (b ∷ second) → SameNumbers (a ∷ first) (b ∷ second) → a ≡ b
-starts_alike a b first second ascends ascends' same = ⊎_elim
-    (λ e. e)
-    (λ apart. ⊎_elim
-    (λ less. absurd (false≢true (sym (none_below b second a ascends' less) ∙ sym (same a) ∙ or_left (a == a) (has_number first a) (eq-eqb a a refl))))
-    (λ more. absurd (false≢true (sym (none_below a first b ascends more) ∙ same b ∙ or_left (b == b) (has_number second b) (eq-eqb b b refl))))
-    apart)
-    (cases_order a b)
-
-ends_alike : (a b : ℕ) (first second : List ℕ) → a ≡ b → AscendingNumbers (a ∷ first) → AscendingNumbers (b ∷ second) → SameNumbers (a ∷ first) (b ∷ second) → SameNumbers first second
-ends_alike a b first second alike ascends ascends' same n =
-    elim (cases_eq a n) [
-      | inl here ↦ none_again a first n ascends (omega arith) ∙ sym (none_again b second n ascends' (omega arith))
-      | inr other ↦
-          let left : has_number (a ∷ first) n ≡ has_number first n = ap (λ t. t || has_number first n) (ne_eqb a n other) in
-          let right : has_number (b ∷ second) n ≡ has_number second n = ap (λ t. t || has_number second n) (ne_eqb b n (λ e. other (alike ∙ e))) in
-          sym left ∙ same n ∙ right
-    ]
-
 -- two ascending lists with the same numbers are equal
 pub same_numbers : (first second : List ℕ) → AscendingNumbers first → AscendingNumbers second → SameNumbers first second → first ≡ second
-same_numbers [] [] ascends ascends' same = refl
-same_numbers [] (b ∷ second) ascends ascends' same = absurd (false≢true (same b ∙ or_left (b == b) (has_number second b) (eq-eqb b b refl)))
-same_numbers (a ∷ first) [] ascends ascends' same = absurd (true≢false (sym (or_left (a == a) (has_number first a) (eq-eqb a a refl)) ∙ same a))
+same_numbers [] second ascends ascends' same = sym (nothing_listed second (λ n. sym (same n)))
+same_numbers (a ∷ first) [] ascends ascends' same = nothing_listed (a ∷ first) same
 same_numbers (a ∷ first) (b ∷ second) ascends ascends' same =
-    let alike = starts_alike a b first second ascends ascends' same in
-    let rest = same_numbers first second (ascending_tail a first ascends) (ascending_tail b second ascends') (ends_alike a b first second alike ascends ascends' same) in
-    ap (λ x. x ∷ first) alike ∙ ap (λ xs. b ∷ xs) rest
+    let alike : a ≡ b = (let at_a = same a in let at_b = same b in let above = none_again b second a ascends' in
+    let above' = none_again a first b ascends in grind (arith, nat_tests)) in
+    let rest = same_numbers first second (ascending_tail a first ascends) (ascending_tail b second ascends') (λ n.
+    let at = same n in let above = none_again a first n ascends in let above' = none_again b second n ascends' in grind (arith, nat_tests)) in
+    rw (alike, rest) refl
 
 -- ---- the first number from a bound on
 
@@ -78,32 +56,17 @@ pub record IsFirstFrom (numbers : List ℕ) (least number : ℕ) : Type 0 where
   pub more : least ≤ number
   pub none_between : (n : ℕ) → least ≤ n → n < number → has_number numbers n ≡ false
 
--- a first number that is below the bound changes nothing
-skipped : (least a number : ℕ) (numbers : List ℕ) → a < least → IsFirstFrom numbers least number → IsFirstFrom (a ∷ numbers) least number
-skipped least a number numbers low first = record {
-  listed = or_right (a == number) (has_number numbers number) first.listed;
-  more = first.more;
-  none_between = λ n from to. or_from (a == n) (has_number numbers n) (ne_eqb a n (λ e. omega arith)) (first.none_between n from to);
-}
-
-some_same : (a b : ℕ) → Some a ≡ Some b → a ≡ b
-some_same a b same = cc
-
 pub first_some : (numbers : List ℕ) (least number : ℕ) → AscendingNumbers numbers → first_from least numbers ≡ Some number → IsFirstFrom numbers least number
 first_some [] least number ascending found = absurd cc
 first_some (a ∷ numbers) least number ascending found =
-    elim (cases_Bool (nat_le least a)) [
-      | inl enough ↦
-          let here : a ≡ number = some_same a number (sym (cond-true (nat_le least a) (Some a) (first_from least numbers) enough) ∙ found) in
-          let order = leb-true least a enough in record {
-            listed = or_left (a == number) (has_number numbers number) (eq-eqb a number here);
-            more = omega arith;
-            none_between = λ n from to. none_below a numbers n ascending (omega arith);
-          }
-      | inr low ↦
-          skipped least a number numbers (leb-false least a low)
-          (first_some numbers least number (ascending_tail a numbers ascending) (sym (cond-false (nat_le least a) (Some a) (first_from least numbers) low) ∙ found))
-    ]
+    let later : first_from least numbers ≡ Some number → IsFirstFrom numbers least number = λ e. first_some numbers least number (ascending_tail a numbers ascending) e in
+    record {
+      listed = (let rest : first_from least numbers ≡ Some number → IsTrue (has_number numbers number) = λ e. (later e).listed in grind (arith, nat_tests));
+      more = (let rest : first_from least numbers ≡ Some number → least ≤ number = λ e. (later e).more in grind (arith, nat_tests));
+      none_between = λ n from to.
+          let rest : first_from least numbers ≡ Some number → has_number numbers n ≡ false = λ e. (later e).none_between n from to in
+          let above = none_again a numbers n ascending in grind (arith, nat_tests);
+    }
 
 -- the first number lies between the bound and the limit of all numbers
 pub first_bounds : (numbers : List ℕ) (least number limit : ℕ) → AscendingNumbers numbers → All (λ n. n < limit) numbers → first_from least numbers ≡ Some number → (least ≤ number) × (number < limit)
@@ -125,29 +88,14 @@ is_first_none (a ∷ numbers) least none =
 pub is_first_some : (numbers : List ℕ) (least number : ℕ) → AscendingNumbers numbers → IsFirstFrom numbers least number → first_from least numbers ≡ Some number
 is_first_some [] least number ascending first = absurd (false≢true first.listed)
 is_first_some (a ∷ numbers) least number ascending first =
-    elim (cases_Bool (nat_le least a)) [
-      | inl enough ↦
-          let same : a ≡ number = ⊎_elim
-          (λ e. e)
-          (λ apart. ⊎_elim
-          (λ less. absurd (true≢false (sym (or_left (a == a) (has_number numbers a) (eq-eqb a a refl)) ∙ first.none_between a (leb-true least a enough) less)))
-          (λ over. absurd (false≢true (sym (none_below a numbers number ascending over) ∙ first.listed)))
-          apart)
-          (cases_order a number) in
-          cond-true (nat_le least a) (Some a) (first_from least numbers) enough ∙ ap (λ n. Some n) same
-      | inr low ↦
-          let order = leb-false least a low in
-          let more = first.more in
-          cond-false (nat_le least a) (Some a) (first_from least numbers) low
-          ∙ is_first_some numbers least number (ascending_tail a numbers ascending) (record {
-            listed = ⊎_elim
-                (λ here. absurd (let e = eqb-true a number here in omega arith))
-                (λ later. later)
-                (or_cases (a == number) (has_number numbers number) first.listed);
-            more = more;
-            none_between = λ n from to. (or_parts (a == n) (has_number numbers n) (first.none_between n from to)).1;
-          })
-    ]
+    let rest : IsTrue (has_number numbers number) → first_from least numbers ≡ Some number = λ later.
+    is_first_some numbers least number (ascending_tail a numbers ascending) (record {
+      listed = later;
+      more = first.more;
+      none_between = λ n from to. (or_parts (a == n) (has_number numbers n) (first.none_between n from to)).1;
+    }) in
+    let listed = first.listed in let more = first.more in let between = first.none_between a in
+    let above = none_again a numbers number ascending in grind (arith, nat_tests)
 
 -- ---- the numbers from a bound on
 
@@ -186,14 +134,9 @@ pub record IsWalked (numbers so_far : List ℕ) (least : ℕ) : Type 0 where
 pub IsWalked-more : (numbers so_far more : List ℕ) (least number next : ℕ) → AscendingNumbers numbers → IsWalked numbers so_far least
     → first_from least numbers ≡ Some number → more ≡ so_far ++ number ∷ [] → next ≡ number → IsWalked numbers more (next + 1)
 IsWalked-more numbers so_far more least number next ascending walked found pushed same = record {
-  whole =
-      ap (λ ns. ns ++ from_on (next + 1) numbers) pushed
-      ∙ append_assoc so_far (number ∷ []) (from_on (next + 1) numbers)
-      ∙ ap (λ n. so_far ++ number ∷ from_on (n + 1) numbers) same
-      ∙ ap (λ ns. so_far ++ ns) (sym (from_on_some numbers least number ascending found))
-      ∙ walked.whole;
+  whole = rw (pushed, same) (append_assoc so_far (number ∷ []) (from_on (number + 1) numbers)
+      ∙ ap (λ ns. so_far ++ ns) (sym (from_on_some numbers least number ascending found)) ∙ walked.whole);
 }
 
 pub IsWalked-all : (numbers so_far : List ℕ) (least : ℕ) → IsWalked numbers so_far least → first_from least numbers ≡ None → so_far ≡ numbers
-IsWalked-all numbers so_far least walked none =
-    sym (append-nil so_far) ∙ ap (λ ns. so_far ++ ns) (sym (from_on_none numbers least none)) ∙ walked.whole
+IsWalked-all numbers so_far least walked none = sym (append-nil so_far) ∙ (rw (from_on_none numbers least none) at walked.whole)

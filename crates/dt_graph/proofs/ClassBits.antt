@@ -1,7 +1,8 @@
 -- The numbers of a class set against the bits of its words.
 use Rattle.std.proofs.Common.{◌≡◌, ◌==◌, ℕ, zero, suc, ◌+◌, ◌-◌, ◌*◌, ◌/◌, ◌%◌, ◌^◌, ◌<◌, ◌≤◌, Bool, cond, not, ◌&&◌, ◌||◌, IsTrue, List, [], ◌∷◌, ◌++◌, length, get_or, set, replicate, filter, All, refl, sym, ap, ◌∙◌, ⊎_elim, arith, eq-eqb, ne_eqb, eqb-true, lt-ltb, inl, inr, w64, min, max, subst, length-append}
-use Rattle.std.proofs.lemmas.Bool.{or_cases, or_left, or_right, and_right, cases_Bool, cases_eq, cases_lt, cond-true, cond-false, false≢true, eqb-false}
+use Rattle.std.proofs.lemmas.Bool.{cases_eq, cases_lt, false≢true, eqb-false}
 use Rattle.std.proofs.lemmas.Bool.Decides.{nat_tests}
+use Rattle.std.proofs.lemmas.List.Elements.{filter-append}
 use Rattle.std.proofs.lemmas.List.{get_or_past, get_or-replicate, get_or-set_same, get_or-set_other, length-set, length-replicate}
 use Rattle.std.proofs.lemmas.Nat.Bits.{bit_at-zero, bit_at-suc, bit_at_lowest, bit_at-lt, bit_at_and, bit_at_or, bit_at_not, bit_at_set_same, bit_at_set_other, bit_at_clear_same, bit_at_clear_other, shr_and_one}
 use Rattle.std.specs.Prelude.{bit_and, bit_or}
@@ -13,9 +14,10 @@ use native.Mathlib.Nat.{two-pow-succ}
 use Rattle.dt_graph.specs.Graph.{has_number, insert_number}
 use Rattle.dt_graph.specs.Lawful.{AscendingNumbers}
 use Rattle.dt_graph.specs.ClassSet.{has_bit, numbers_below}
+use Rattle.dt_graph.proofs.ListMembers.{by_cases, any_from_In, filter_agree_in}
 use Rattle.dt_graph.proofs.LinkLists.{has_number-filter, has_number-kept, has_number-placed, all_numbers}
 use Rattle.dt_graph.proofs.Ascending.{AscendingNumbers-filter, AscendingNumbers-placed}
-use Rattle.dt_graph.proofs.AscendingSets.{same_truth, and_true, same_numbers, nothing_listed}
+use Rattle.dt_graph.proofs.AscendingSets.{same_truth, same_numbers, nothing_listed}
 
 pub AscendingNumbers-range : (a n : ℕ) → AscendingNumbers (range_with_len a n)
 AscendingNumbers-range a zero = tt
@@ -24,17 +26,11 @@ AscendingNumbers-range a (suc (suc n)) = (lt-ltb a (a + 1) (omega arith), Ascend
 
 pub has_number-range : (a n x : ℕ) → a ≤ x → x < a + n → IsTrue (has_number (range_with_len a n) x)
 has_number-range a zero x low high = absurd (omega arith)
-has_number-range a (suc n) x low high = ⊎_elim
-    (λ here. or_left (a == x) (has_number (range_with_len (a + 1) n) x) (eq-eqb a x here))
-    (λ later. or_right (a == x) (has_number (range_with_len (a + 1) n) x) (has_number-range (a + 1) n x (omega arith) (omega arith)))
-    (cases_eq a x)
+has_number-range a (suc n) x low high = let rest = has_number-range (a + 1) n x in grind (arith, nat_tests)
 
 pub has_number-range_below : (a n x : ℕ) → IsTrue (has_number (range_with_len a n) x) → x < a + n
 has_number-range_below a zero x listed = absurd (false≢true listed)
-has_number-range_below a (suc n) x listed = ⊎_elim
-    (λ here. let e = eqb-true a x here in omega arith)
-    (λ later. let rest = has_number-range_below (a + 1) n x later in omega arith)
-    (or_cases (a == x) (has_number (range_with_len (a + 1) n) x) listed)
+has_number-range_below a (suc n) x listed = let rest = has_number-range_below (a + 1) n x in grind (arith, nat_tests)
 
 pub AscendingNumbers-below : (limit : ℕ) (words : List ℕ) → AscendingNumbers (numbers_below limit words)
 unfolding numbers_below
@@ -52,8 +48,7 @@ unfolding has_bit
 has_bit_below words n bit = ⊎_elim
     (λ inside. omega arith)
     (λ past.
-    let none : get_or words (n / 64) 0 ≡ 0 = get_or_past words (n / 64) 0 past in
-    let unset : bit_at (get_or words (n / 64) 0) (n % 64) ≡ 0 = ap (λ w. bit_at w (n % 64)) none ∙ bit_at-zero (n % 64) in
+    let unset : bit_at (get_or words (n / 64) 0) (n % 64) ≡ 0 = rw (get_or_past words (n / 64) 0 past) (bit_at-zero (n % 64)) in
     let is_set = eqb-true (bit_at (get_or words (n / 64) 0) (n % 64)) 1 bit in
     absurd (omega arith))
     (cases_lt (n / 64) (length words))
@@ -87,10 +82,6 @@ none_set limit n all =
 
 -- ---- one bit
 
--- two numbers in one word have other places there
-apart_in_word : (n c : ℕ) → (c ≡ n → ⊥) → n / 64 ≡ c / 64 → n % 64 ≡ c % 64 → ⊥
-apart_in_word n c other same_word same_place = other (omega arith)
-
 -- a word's bit in the place of the number
 abbrev with_bit : ℕ → ℕ → ℕ
 with_bit word c = bit_or word (1 * 2 ^ (c % 64) % 2 ^ 64)
@@ -114,51 +105,35 @@ has_bit-word : (words : List ℕ) (c n : ℕ) → n / 64 ≡ c / 64 → has_bit 
 unfolding has_bit
 has_bit-word words c n here = ap (λ k. bit_at (get_or words k 0) (n % 64) == 1) here
 
+-- a word that differs from the one before it in the place of the number alone
+bit_put : (words : List ℕ) (c n new bit : ℕ) → c / 64 < length words → bit_at new (c % 64) ≡ bit
+    → ((i : ℕ) → i < 64 → (i ≡ c % 64 → ⊥) → bit_at new i ≡ bit_at (get_or words (c / 64) 0) i)
+    → has_bit (set words (c / 64) new) n ≡ cond (c == n) (bit == 1) (has_bit words n)
+bit_put words c n new bit inside own others =
+    elim (cases_eq c n) [
+      | inl same ↦ rw (eq-eqb c n same) (has_bit-here words c new n inside (omega arith)
+          ∙ ap (λ k. bit_at new (k % 64) == 1) (sym same) ∙ ap (λ b. b == 1) own)
+      | inr other ↦ rw (ne_eqb c n other) (elim (cases_eq (n / 64) (c / 64)) [
+        | inl here ↦
+            has_bit-here words c new n inside here
+            ∙ ap (λ b. b == 1) (others (n % 64) (omega arith) (λ e. other (omega arith))) ∙ sym (has_bit-word words c n here)
+        | inr elsewhere ↦ has_bit-elsewhere words c new n elsewhere
+      ])
+    ]
+
 has_bit-set : (words : List ℕ) (c n : ℕ) → c / 64 < length words
     → has_bit (set words (c / 64) (with_bit (get_or words (c / 64) 0) c)) n ≡ ((c == n) || has_bit words n)
 has_bit-set words c n inside =
     let word : ℕ = get_or words (c / 64) 0 in
-    elim (cases_eq c n) [
-      | inl same ↦
-          has_bit-here words c (with_bit word c) n inside (omega arith)
-          ∙ ap (λ k. bit_at (with_bit word c) (k % 64) == 1) (sym same)
-          ∙ ap (λ b. b == 1) (bit_at_set_same w64 word (c % 64) (omega arith))
-          ∙ sym (or_left (c == n) (has_bit words n) (eq-eqb c n same))
-      | inr other ↦
-          elim (cases_eq (n / 64) (c / 64)) [
-            | inl here ↦
-                has_bit-here words c (with_bit word c) n inside here
-                ∙ ap (λ b. b == 1) (bit_at_set_other w64 word (c % 64) (omega arith) (n % 64) (apart_in_word n c other here))
-                ∙ sym (has_bit-word words c n here)
-                ∙ sym (ap (λ t. t || has_bit words n) (ne_eqb c n other))
-            | inr elsewhere ↦
-                has_bit-elsewhere words c (with_bit word c) n elsewhere
-                ∙ sym (ap (λ t. t || has_bit words n) (ne_eqb c n other))
-          ]
-    ]
+    bit_put words c n (with_bit word c) 1 inside (bit_at_set_same w64 word (c % 64) (omega arith))
+    (λ i small other. bit_at_set_other w64 word (c % 64) (omega arith) i other) ∙ grind arith
 
 has_bit-clear : (words : List ℕ) (c n : ℕ) → c / 64 < length words
     → has_bit (set words (c / 64) (without_bit (get_or words (c / 64) 0) c)) n ≡ (has_bit words n && not (n == c))
 has_bit-clear words c n inside =
     let word : ℕ = get_or words (c / 64) 0 in
-    elim (cases_eq n c) [
-      | inl same ↦
-          has_bit-here words c (without_bit word c) n inside (omega arith)
-          ∙ ap (λ k. bit_at (without_bit word c) (k % 64) == 1) same
-          ∙ ap (λ b. b == 1) (bit_at_clear_same w64 word (c % 64) (omega arith))
-          ∙ sym (and_right (has_bit words n) (not (n == c)) (ap not (eq-eqb n c same)))
-      | inr other ↦
-          elim (cases_eq (n / 64) (c / 64)) [
-            | inl here ↦
-                has_bit-here words c (without_bit word c) n inside here
-                ∙ ap (λ b. b == 1) (bit_at_clear_other w64 word (c % 64) (omega arith) (n % 64) (omega arith) (apart_in_word n c (λ e. other (sym e)) here))
-                ∙ sym (has_bit-word words c n here)
-                ∙ sym (and_true (has_bit words n) (not (n == c)) (ap not (ne_eqb n c other)))
-            | inr elsewhere ↦
-                has_bit-elsewhere words c (without_bit word c) n elsewhere
-                ∙ sym (and_true (has_bit words n) (not (n == c)) (ap not (ne_eqb n c other)))
-          ]
-    ]
+    bit_put words c n (without_bit word c) 0 inside (bit_at_clear_same w64 word (c % 64) (omega arith))
+    (λ i small other. bit_at_clear_other w64 word (c % 64) (omega arith) i small other) ∙ grind (arith, nat_tests)
 
 pub inserted : (limit : ℕ) (words numbers : List ℕ) (c : ℕ) → numbers_below limit words ≡ numbers → limit ≡ 64 * length words → c < limit
     → numbers_below limit (set words (c / 64) (with_bit (get_or words (c / 64) 0) c)) ≡ insert_number c numbers
@@ -224,56 +199,47 @@ words_fit made second j same fits =
 has_number-shown : (limit : ℕ) (words numbers : List ℕ) (n : ℕ) → numbers_below limit words ≡ numbers → limit ≡ 64 * length words → has_bit words n ≡ has_number numbers n
 has_number-shown limit words numbers n shown all = sym (has_number-below limit words n all) ∙ ap (λ ns. has_number ns n) shown
 
+-- what an operation of words says of sets, where it says so of bits
+combined : (op : ℕ → ℕ → ℕ) (told : Bool → Bool → Bool) (limit : ℕ) (made first second first_numbers second_numbers : List ℕ) → op 0 0 ≡ 0 → AreSets limit made first second first_numbers second_numbers
+    → ((j : ℕ) → j < length made → get_or made j 0 ≡ op (get_or first j 0) (get_or second j 0))
+    → ((j i : ℕ) → i < 64 → (bit_at (op (get_or first j 0) (get_or second j 0)) i == 1) ≡ told (bit_at (get_or first j 0) i == 1) (bit_at (get_or second j 0) i == 1))
+    → (n : ℕ) → has_number (numbers_below limit made) n ≡ told (has_number first_numbers n) (has_number second_numbers n)
+unfolding has_bit
+combined op told limit made first second first_numbers second_numbers none sets each bits n =
+    has_number-below limit made n sets.made_all
+    ∙ ap (λ w. bit_at w (n % 64) == 1) (each_made op limit made first second first_numbers second_numbers none sets each (n / 64))
+    ∙ bits (n / 64) (n % 64) (omega arith)
+    ∙ ap (λ t. told t (bit_at (get_or second (n / 64) 0) (n % 64) == 1)) (has_number-shown limit first first_numbers n sets.first_shown sets.first_all)
+    ∙ ap (told (has_number first_numbers n)) (has_number-shown limit second second_numbers n sets.second_shown sets.second_all)
+
 -- each word is the `or` of the two
 pub joined : (limit : ℕ) (made first second first_numbers second_numbers : List ℕ) → AreSets limit made first second first_numbers second_numbers
     → ((j : ℕ) → j < length made → get_or made j 0 ≡ bit_or (get_or first j 0) (get_or second j 0))
     → (n : ℕ) → has_number (numbers_below limit made) n ≡ (has_number first_numbers n || has_number second_numbers n)
-unfolding has_bit
-joined limit made first second first_numbers second_numbers sets each n =
-    let a : ℕ = get_or first (n / 64) 0 in
-    let b : ℕ = get_or second (n / 64) 0 in
-    has_number-below limit made n sets.made_all
-    ∙ ap (λ w. bit_at w (n % 64) == 1) (each_made bit_or limit made first second first_numbers second_numbers refl sets each (n / 64))
-    ∙ ap (λ x. x == 1) (bit_at_or a b (n % 64))
-    ∙ bit_either (bit_at a (n % 64)) (bit_at b (n % 64)) (bit_at-lt a (n % 64)) (bit_at-lt b (n % 64))
-    ∙ ap (λ t. t || (bit_at b (n % 64) == 1)) (has_number-shown limit first first_numbers n sets.first_shown sets.first_all)
-    ∙ ap (λ t. has_number first_numbers n || t) (has_number-shown limit second second_numbers n sets.second_shown sets.second_all)
+joined limit made first second first_numbers second_numbers sets each =
+    combined bit_or (λ a b. a || b) limit made first second first_numbers second_numbers refl sets each (λ j i small.
+    let a = get_or first j 0 in let b = get_or second j 0 in
+    ap (λ x. x == 1) (bit_at_or a b i) ∙ bit_either (bit_at a i) (bit_at b i) (bit_at-lt a i) (bit_at-lt b i))
 
 -- each word is the first `and` the complement of the second
 pub left_over : (limit : ℕ) (made first second first_numbers second_numbers : List ℕ) → AreSets limit made first second first_numbers second_numbers
     → ((j : ℕ) → j < length made → get_or second j 0 < 2 ^ 64)
     → ((j : ℕ) → j < length made → get_or made j 0 ≡ bit_and (get_or first j 0) (bit_not w64 (get_or second j 0)))
     → (n : ℕ) → has_number (numbers_below limit made) n ≡ (has_number first_numbers n && not (has_number second_numbers n))
-unfolding has_bit
-left_over limit made first second first_numbers second_numbers sets fits each n =
-    let fits_all : (j : ℕ) → get_or second j 0 < 2 ^ 64 = λ j. words_fit made second j (omega (arith, sets.made_all, sets.second_all)) fits in
-    let a : ℕ = get_or first (n / 64) 0 in
-    let b : ℕ = get_or second (n / 64) 0 in
-    has_number-below limit made n sets.made_all
-    ∙ ap (λ w. bit_at w (n % 64) == 1) (each_made (λ x y. bit_and x (bit_not w64 y)) limit made first second first_numbers second_numbers refl sets each (n / 64))
-    ∙ ap (λ x. x == 1) (bit_at_and a (bit_not w64 b) (n % 64) ∙ ap (min (bit_at a (n % 64))) (bit_at_not w64 b (n % 64) (fits_all (n / 64)) (omega arith)))
-    ∙ bit_left (bit_at a (n % 64)) (bit_at b (n % 64)) (bit_at-lt a (n % 64)) (bit_at-lt b (n % 64))
-    ∙ ap (λ t. t && not (bit_at b (n % 64) == 1)) (has_number-shown limit first first_numbers n sets.first_shown sets.first_all)
-    ∙ ap (λ t. has_number first_numbers n && not t) (has_number-shown limit second second_numbers n sets.second_shown sets.second_all)
+left_over limit made first second first_numbers second_numbers sets fits each =
+    combined (λ x y. bit_and x (bit_not w64 y)) (λ a b. a && not b) limit made first second first_numbers second_numbers refl sets each (λ j i small.
+    let a = get_or first j 0 in let b = get_or second j 0 in
+    ap (λ x. x == 1) (bit_at_and a (bit_not w64 b) i ∙ ap (min (bit_at a i)) (bit_at_not w64 b i
+    (words_fit made second j (omega (arith, sets.made_all, sets.second_all)) fits) small))
+    ∙ bit_left (bit_at a i) (bit_at b i) (bit_at-lt a i) (bit_at-lt b i))
 
 -- ---- how many
 
-filter-range_split : (test : ℕ → Bool) (a m n q : ℕ) → q ≡ m + n → filter test (range_with_len a q) ≡ filter test (range_with_len a m) ++ filter test (range_with_len (a + m) n)
-filter-range_split test a zero n q all =
-    ap (λ k. filter test (range_with_len a k)) (omega arith) ∙ ap (λ k. filter test (range_with_len k n)) (omega arith)
-filter-range_split test a (suc m) n zero all = absurd (omega arith)
-filter-range_split test a (suc m) n (suc q) all =
-    let rest = filter-range_split test (a + 1) m n q (omega arith) ∙ ap (λ k. filter test (range_with_len (a + 1) m) ++ filter test (range_with_len k n)) (omega arith) in
-    elim (cases_Bool (test a)) [
-      | inl passes ↦
-          cond-true (test a) (a ∷ filter test (range_with_len (a + 1) q)) (filter test (range_with_len (a + 1) q)) passes
-          ∙ ap (λ ns. a ∷ ns) rest
-          ∙ sym (ap (λ ns. ns ++ filter test (range_with_len (a + suc m) n)) (cond-true (test a) (a ∷ filter test (range_with_len (a + 1) m)) (filter test (range_with_len (a + 1) m)) passes))
-      | inr fails ↦
-          cond-false (test a) (a ∷ filter test (range_with_len (a + 1) q)) (filter test (range_with_len (a + 1) q)) fails
-          ∙ rest
-          ∙ sym (ap (λ ns. ns ++ filter test (range_with_len (a + suc m) n)) (cond-false (test a) (a ∷ filter test (range_with_len (a + 1) m)) (filter test (range_with_len (a + 1) m)) fails))
-    ]
+pub range-split : (a m n q : ℕ) → q ≡ m + n → range_with_len a q ≡ range_with_len a m ++ range_with_len (a + m) n
+range-split a zero n q all = ap (range_with_len a) (omega arith) ∙ ap (λ k. range_with_len k n) (omega arith)
+range-split a (suc m) n zero all = absurd (omega arith)
+range-split a (suc m) n (suc q) all = ap (λ ns. a ∷ ns) (range-split (a + 1) m n q (omega arith)
+    ∙ ap (λ k. range_with_len (a + 1) m ++ range_with_len k n) (omega arith))
 
 no_ones : 0 ≡ count_ones 0
 unfolding count_ones
@@ -287,16 +253,9 @@ ones_counted test (suc m) k word fits each =
     let rest = ones_counted test m (k + 1) (word / 2) (omega (arith, two-pow-succ m)) (λ i inside.
     ap test (omega arith) ∙ each (suc i) (omega arith) ∙ ap (λ b. b == 1) (bit_at-suc word i)) in
     let lowest : test k ≡ (word % 2 == 1) = ap test (omega arith) ∙ each 0 (omega arith) ∙ ap (λ b. b == 1) (bit_at_lowest word) in
-    elim (cases_Bool (test k)) [
-      | inl passes ↦
-          let odd = eqb-true (word % 2) 1 (sym lowest ∙ passes) in
-          ap length (cond-true (test k) (k ∷ filter test (range_with_len (k + 1) m)) (filter test (range_with_len (k + 1) m)) passes)
-          ∙ omega (arith, rest, odd, ones_step word)
-      | inr fails ↦
-          let even = eqb-false (word % 2) 1 (sym lowest ∙ fails) in
-          ap length (cond-false (test k) (k ∷ filter test (range_with_len (k + 1) m)) (filter test (range_with_len (k + 1) m)) fails)
-          ∙ omega (arith, rest, even, ones_step word)
-    ]
+    by_cases (test k)
+    (λ passes. let odd = eqb-true (word % 2) 1 (sym lowest ∙ passes) in rw passes (omega (arith, rest, odd, ones_step word)))
+    (λ fails. let even = eqb-false (word % 2) 1 (sym lowest ∙ fails) in rw fails (omega (arith, rest, even, ones_step word)))
 
 -- the numbers of the words before one, and those of that word
 pub counted : (bits limit more i : ℕ) (words : List ℕ) → bits ≡ 64 → limit ≡ 64 * i → more ≡ limit + bits → get_or words i 0 < 2 ^ bits
@@ -304,7 +263,8 @@ pub counted : (bits limit more i : ℕ) (words : List ℕ) → bits ≡ 64 → l
 unfolding numbers_below has_bit
 counted bits limit more i words all before after fits =
     let word : ℕ = get_or words i 0 in
-    ap length (filter-range_split (has_bit words) 0 limit bits more after)
+    ap length (ap (filter (has_bit words)) (range-split 0 limit bits more after)
+    ∙ filter-append (has_bit words) (range_with_len 0 limit) (range_with_len (0 + limit) bits))
     ∙ length-append (numbers_below limit words) (filter (has_bit words) (range_with_len (0 + limit) bits))
     ∙ ap (λ k. length (numbers_below limit words) + k)
     (ones_counted (has_bit words) bits (0 + limit) word fits (λ j inside.
@@ -317,11 +277,8 @@ unfolding numbers_below
 none_counted words = refl
 
 same_in_range : (first second : ℕ → Bool) (a n : ℕ) → ((k : ℕ) → k < a + n → first k ≡ second k) → filter first (range_with_len a n) ≡ filter second (range_with_len a n)
-same_in_range first second a zero same = refl
-same_in_range first second a (suc n) same =
-    let rest : List ℕ = range_with_len (a + 1) n in
-    ap (λ t. cond t (a ∷ filter first rest) (filter first rest)) (same a (omega arith))
-    ∙ ap (λ ns. cond (second a) (a ∷ ns) ns) (same_in_range first second (a + 1) n (λ k inside. same k (omega arith)))
+same_in_range first second a n same = filter_agree_in first second (range_with_len a n)
+    (λ k i. same k (has_number-range_below a n k (any_from_In (λ m. m == k) (range_with_len a n) k i (eq-eqb k k refl))))
 
 -- a word that changes, changes nothing below it
 below_changed : (limit i word : ℕ) (words : List ℕ) → limit ≡ 64 * i → numbers_below limit (set words i word) ≡ numbers_below limit words

@@ -1,6 +1,7 @@
 -- Which classes are live and which links are there after a change: what the change is about, and what was there.
-use Rattle.std.proofs.Common.{◌≡◌, ◌==◌, ℕ, Bool, false, not, ◌&&◌, ◌||◌, List, refl, ap, eq-eqb}
+use Rattle.std.proofs.Common.{◌≡◌, ◌==◌, ℕ, Bool, true, false, not, ◌&&◌, ◌||◌, List, refl, ap, eq-eqb, arith}
 use Rattle.std.proofs.lemmas.Bool.{and_right}
+use Rattle.std.proofs.lemmas.Bool.Decides.{nat_tests}
 use Rattle.dt_graph.specs.Graph.{Graph, has_number, is_live, is_link, has_link}
 use Rattle.dt_graph.specs.GraphChange.{add_effect, drop_effect, link_effect, unlink_effect}
 pub use Rattle.dt_graph.proofs.LinkLists.{has_number-filtered}
@@ -25,6 +26,9 @@ live_after_link g class parent other = refl
 
 pub links_after_link : (g : Graph) (class parent low high : ℕ) → has_link (link_effect g class parent).links low high ≡ (((class == low) && (parent == high)) || has_link g.links low high)
 links_after_link g class parent low high = has_link-placed (record { class = class; parent = parent }) g.links low high
+
+pub link_made : (g : Graph) (class parent : ℕ) → has_link (link_effect g class parent).links class parent ≡ true
+link_made g class parent = let made = links_after_link g class parent class parent in grind (arith, nat_tests)
 
 pub live_after_unlink : (g : Graph) (class parent other : ℕ) → is_live (unlink_effect g class parent) other ≡ is_live g other
 live_after_unlink g class parent other = refl

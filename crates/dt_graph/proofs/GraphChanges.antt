@@ -20,17 +20,11 @@ pub record IsRowOf (graph : Graph) (rows : List Row) (n class : ℕ) : Type 0 wh
 pub row_at : (graph : Graph) (rows : List Row) (n class : ℕ) → graph_of rows ≡ graph → LawfulRows rows → n ≡ class → n < CLASSES → IsRowOf graph rows n class
 row_at graph rows n class shown lawful same low = record { shown = shown; same = same; inside = omega (arith, lawful.count) }
 
-lawful_of : (graph : Graph) (rows : List Row) (n class : ℕ) → IsRowOf graph rows n class → LawfulRows rows → LawfulGraph graph
-lawful_of graph rows n class at old = subst LawfulGraph at.shown old.lawful
-
-in_range_of : (graph : Graph) (rows : List Row) (n class : ℕ) → IsRowOf graph rows n class → LawfulRows rows → class < CLASSES
-in_range_of graph rows n class at old = omega (arith, at.same, at.inside, old.count)
-
--- rows of a lawful graph after a change
-changed : (rows : List Row) (n : ℕ) (row : Row) (graph : Graph) → LawfulRows rows → graph_of (set rows n row) ≡ graph → LawfulGraph graph → LawfulRows (set rows n row)
-changed rows n row graph old shown lawful = record {
+-- rows after a change that keeps a graph lawful
+changed : (graph new : Graph) (rows : List Row) (n class : ℕ) (row : Row) → IsRowOf graph rows n class → LawfulRows rows → graph_of (set rows n row) ≡ new → (class < CLASSES → LawfulGraph graph → LawfulGraph new) → LawfulRows (set rows n row)
+changed graph new rows n class row at old shown keeps = record {
   count = length-set rows n row ∙ old.count;
-  lawful = subst LawfulGraph (sym shown) lawful;
+  lawful = subst LawfulGraph (sym shown) (keeps (omega (arith, at.same, at.inside, old.count)) (subst LawfulGraph at.shown old.lawful));
 }
 
 -- ---- a class is added
@@ -45,9 +39,8 @@ inserted graph rows n class parents row at old none live filled =
 
 pub inserted_lawful : (graph : Graph) (rows : List Row) (n class : ℕ) (parents : List ℕ) (row : Row) → IsRowOf graph rows n class → LawfulRows rows → add_cause graph class parents ≡ None → row.is_live ≡ true → row.parents.items ≡ insert_numbers parents [] → LawfulRows (set rows n row)
 inserted_lawful graph rows n class parents row at old none live filled =
-    changed rows n row (add_effect graph class parents) old
-    (inserted graph rows n class parents row at old none live filled)
-    (add_keeps graph class parents (lawful_of graph rows n class at old) (in_range_of graph rows n class at old) none)
+    changed graph (add_effect graph class parents) rows n class row at old (inserted graph rows n class parents row at old none live filled)
+    (λ in_range lawful. add_keeps graph class parents lawful in_range none)
 
 -- ---- a class is dropped
 
@@ -58,9 +51,8 @@ dropped graph rows n class row at not_live none =
 
 pub dropped_lawful : (graph : Graph) (rows : List Row) (n class : ℕ) (row : Row) → IsRowOf graph rows n class → LawfulRows rows → drop_cause graph class ≡ None → row.is_live ≡ false → row.parents.items ≡ [] → LawfulRows (set rows n row)
 dropped_lawful graph rows n class row at old allowed not_live none =
-    changed rows n row (drop_effect graph class) old
-    (dropped graph rows n class row at not_live none)
-    (drop_keeps graph class (lawful_of graph rows n class at old) allowed)
+    changed graph (drop_effect graph class) rows n class row at old (dropped graph rows n class row at not_live none)
+    (λ _ lawful. drop_keeps graph class lawful allowed)
 
 -- ---- a link is made
 
@@ -71,9 +63,8 @@ linked graph rows n class parent row d at same placed =
 
 pub linked_lawful : (graph : Graph) (rows : List Row) (n class parent : ℕ) (row d : Row) → IsRowOf graph rows n class → LawfulRows rows → link_cause graph class parent ≡ None → row.is_live ≡ (get_or rows n d).is_live → row.parents.items ≡ insert_number parent (get_or rows n d).parents.items → LawfulRows (set rows n row)
 linked_lawful graph rows n class parent row d at old allowed same placed =
-    changed rows n row (link_effect graph class parent) old
-    (linked graph rows n class parent row d at same placed)
-    (link_keeps graph class parent (lawful_of graph rows n class at old) allowed)
+    changed graph (link_effect graph class parent) rows n class row at old (linked graph rows n class parent row d at same placed)
+    (λ _ lawful. link_keeps graph class parent lawful allowed)
 
 -- ---- a link is taken away
 
@@ -84,6 +75,5 @@ unlinked graph rows n class parent row d at same fewer =
 
 pub unlinked_lawful : (graph : Graph) (rows : List Row) (n class parent : ℕ) (row d : Row) → IsRowOf graph rows n class → LawfulRows rows → row.is_live ≡ (get_or rows n d).is_live → row.parents.items ≡ filter (λ p. not (p == parent)) (get_or rows n d).parents.items → LawfulRows (set rows n row)
 unlinked_lawful graph rows n class parent row d at old same fewer =
-    changed rows n row (unlink_effect graph class parent) old
-    (unlinked graph rows n class parent row d at same fewer)
-    (unlink_keeps graph class parent (lawful_of graph rows n class at old))
+    changed graph (unlink_effect graph class parent) rows n class row at old (unlinked graph rows n class parent row d at same fewer)
+    (λ _ lawful. unlink_keeps graph class parent lawful)

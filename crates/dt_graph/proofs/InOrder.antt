@@ -1,10 +1,11 @@
 -- Lists in strict order stay so where an element is placed and where some are left out; and a change is undone.
-use Rattle.std.proofs.Common.{◌≡◌, ◌≤◌, Bool, true, false, cond, IsTrue, List, [], ◌∷◌, Option, None, Some, is_some, All, filter, find, refl, sym, ap, subst, ◌∙◌}
+use Rattle.std.proofs.Common.{◌≡◌, ◌≤◌, Bool, true, false, cond, IsTrue, List, [], ◌∷◌, Option, None, Some, is_some, All, filter, find, refl, sym, ap, subst, ◌∙◌, inl, inr, ⊎_elim}
 use Rattle.std.specs.List.{list_any, count_by}
 use Rattle.std.proofs.Common.{arith}
 use Rattle.std.proofs.lemmas.Bool.{cond_both, false≢true}
 use Rattle.std.proofs.lemmas.List.Elements.{All-nil, All-cons, All-head, All-tail, All-weaker, All-filter}
 use Rattle.std.proofs.lemmas.List.Sums.{sum_by-cons}
+use Rattle.dt_graph.proofs.ListMembers.{In}
 use Rattle.dt_graph.specs.InOrder.{StrictOrder, Ascends, insert_by_key, find_at, without}
 
 -- an element is found exactly where one passes the test
@@ -134,17 +135,12 @@ module _ {X K : Type 0} (key : X → K) (before same : K → K → Bool) (order 
   -- an element goes back behind one that stands before it
   inserted_behind : (old x : X) (k : K) (xs : List X) → key old ≡ k → before k (key x) ≡ false → same k (key x) ≡ false
       → insert_by_key key before same old (x ∷ xs) ≡ x ∷ insert_by_key key before same old xs
-  inserted_behind old x k xs e b s =
-      let b' = subst (λ q. before q (key x) ≡ false) (sym e) b in
-      let s' = subst (λ q. same q (key x) ≡ false) (sym e) s in
-      rw (b', s') refl
+  inserted_behind old x k xs e b s = grind arith
 
   -- and in place of one with its key
   inserted_over : (old d : X) (xs : List X) → key old ≡ key d → insert_by_key key before same old (d ∷ xs) ≡ old ∷ xs
   inserted_over old d xs e =
-      let b = subst (λ q. before q (key d) ≡ false) (sym e) (order.irreflexive (key d)) in
-      let s = subst (λ q. same q (key d) ≡ true) (sym e) (order.reflexive (key d)) in
-      rw (b, s) refl
+      let late = order.irreflexive (key d) in let own = order.reflexive (key d) in grind arith
 
   not_before : (k : K) (x : X) (xs : List X) (old : X) → Ascends key before (x ∷ xs) → find_at key same k (x ∷ xs) ≡ Some old
       → before k (key x) ≡ true → ⊥
@@ -155,39 +151,20 @@ module _ {X K : Type 0} (key : X → K) (before same : K → K → Bool) (order 
   put_back_replaced d old [] u h = absurd cc
   put_back_replaced d old (x ∷ xs) u h =
       let k = found_key (key d) (x ∷ xs) old h in
-      elim (same (key d) (key x)) as (λ t. same (key d) (key x) ≡ t → insert_by_key key before same old (insert_by_key key before same d (x ∷ xs)) ≡ x ∷ xs) [
-        | true ↦ λ s.
-            let one : x ≡ old = (let e = rw s at h in cc) in
-            placed (λ ys. insert_by_key key before same old ys ≡ x ∷ xs) d x xs
-            (λ b. absurd (not_before (key d) x xs old u h b))
-            (λ _ _. inserted_over old d xs k ∙ ap (λ y. y ∷ xs) (sym one))
-            (λ _ e. absurd (false≢true (sym e ∙ s)))
-        | false ↦ λ s. placed (λ ys. insert_by_key key before same old ys ≡ x ∷ xs) d x xs
-            (λ b. absurd (not_before (key d) x xs old u h b))
-            (λ _ e. absurd (false≢true (sym s ∙ e)))
-            (λ b e. inserted_behind old x (key d) (insert_by_key key before same d xs) k b e
-            ∙ ap (λ ys. x ∷ ys) (put_back_replaced d old xs (Ascends-tail x xs u) (rw s at h)))
-      ] refl
+      let late = not_before (key d) x xs old u h in
+      let over = inserted_over old d xs k in
+      let behind = inserted_behind old x (key d) (insert_by_key key before same d xs) k in
+      let rest = put_back_replaced d old xs (Ascends-tail x xs u) in grind arith
 
   pub put_back_removed : (k : K) (old : X) (xs : List X) → Ascends key before xs → find_at key same k xs ≡ Some old
       → insert_by_key key before same old (without key same k xs) ≡ xs
   put_back_removed k old [] u h = absurd cc
   put_back_removed k old (x ∷ xs) u h =
-      let e = found_key k (x ∷ xs) old h in
-      elim (same k (key x)) as (λ t. same k (key x) ≡ t → insert_by_key key before same old (without key same k (x ∷ xs)) ≡ x ∷ xs) [
-        | true ↦ λ s.
-            let one : x ≡ old = (let e = rw s at h in cc) in
-            let all = first_before_all x xs u in
-            let stays = without_none k xs (not_again k x xs u s) in
-            rw s (ap (insert_by_key key before same old) stays ∙ subst (λ y. insert_by_key key before same y xs ≡ x ∷ xs) one (inserted_first x xs all))
-        | false ↦ λ s.
-            let b : before k (key x) ≡ false = elim (before k (key x)) as (λ t. before k (key x) ≡ t → t ≡ false) [
-              | true ↦ λ b. absurd (not_before k x xs old u h b)
-              | false ↦ λ b. refl
-            ] refl in
-            rw s (inserted_behind old x k (without key same k xs) e b s
-            ∙ ap (λ ys. x ∷ ys) (put_back_removed k old xs (Ascends-tail x xs u) (rw s at h)))
-      ] refl
+      let late = not_before k x xs old u h in
+      let gone : IsTrue (same k (key x)) → without key same k xs ≡ xs = λ s. without_none k xs (not_again k x xs u s) in
+      let first = inserted_first x xs (first_before_all x xs u) in
+      let behind = inserted_behind old x k (without key same k xs) (found_key k (x ∷ xs) old h) in
+      let rest = put_back_removed k old xs (Ascends-tail x xs u) in grind arith
 
   -- ---- two in either order
 
@@ -202,22 +179,10 @@ module _ {X K : Type 0} (key : X → K) (before same : K → K → Bool) (order 
 
   -- behind one that stands before it
   inserted_after : (d x : X) (xs : List X) → IsTrue (before (key x) (key d)) → insert_by_key key before same d (x ∷ xs) ≡ x ∷ insert_by_key key before same d xs
-  inserted_after d x xs b = inserted_behind d x (key d) xs refl late other
-    where
-      back : (a : K) → before a a ≡ true → ⊥
-      back a h = false≢true (sym (order.irreflexive a) ∙ h)
-
-      late : before (key d) (key x) ≡ false
-      late = elim (before (key d) (key x)) as (λ t. before (key d) (key x) ≡ t → t ≡ false) [
-        | true ↦ λ h. absurd (back (key x) (order.transitive (key x) (key d) (key x) b h))
-        | false ↦ λ _. refl
-      ] refl
-
-      other : same (key d) (key x) ≡ false
-      other = elim (same (key d) (key x)) as (λ t. same (key d) (key x) ≡ t → t ≡ false) [
-        | true ↦ λ s. absurd (back (key x) (subst (λ q. before (key x) q ≡ true) (order.equal (key d) (key x) s) b))
-        | false ↦ λ _. refl
-      ] refl
+  inserted_after d x xs b =
+      let back = order.transitive (key x) (key d) (key x) b in
+      let own = order.irreflexive (key x) in
+      let alike = order.equal (key d) (key x) in grind arith
 
   first_placed : (d e : X) (xs : List X) → IsTrue (before (key d) (key e)) → IsFirst (key d) xs → IsFirst (key d) (insert_by_key key before same e xs)
   first_placed d e [] b h = b
@@ -242,8 +207,36 @@ module _ {X K : Type 0} (key : X → K) (before same : K → K → Bool) (order 
   pub inserts-commute : (d e : X) (xs : List X) → same (key d) (key e) ≡ false
       → insert_by_key key before same d (insert_by_key key before same e xs) ≡ insert_by_key key before same e (insert_by_key key before same d xs)
   inserts-commute d e xs differ =
-      elim (before (key d) (key e)) as (λ t. before (key d) (key e) ≡ t
-      → insert_by_key key before same d (insert_by_key key before same e xs) ≡ insert_by_key key before same e (insert_by_key key before same d xs)) [
-        | true ↦ λ b. inserts-swap d e xs b
-        | false ↦ λ late. sym (inserts-swap e d xs (order.total (key d) (key e) late differ))
-      ] refl
+      let one = inserts-swap d e xs in
+      let other = inserts-swap e d xs in
+      let total = order.total (key d) (key e) in grind arith
+
+-- ---- which elements stand there after one more is placed: at all other keys the same
+
+module _ {X K : Type 0} (key : X → K) (before same : K → K → Bool) (order : StrictOrder before same)
+    (new d : X) (apart : same (key new) (key d) ≡ false) where
+  not_new : d ≡ new → ⊥
+  not_new e = false≢true (sym (subst (λ x. same (key new) (key x) ≡ false) e apart) ∙ order.reflexive (key new))
+
+  not_first : (xs : List X) → In (new ∷ xs) d → In xs d
+  not_first xs (inl q) = absurd (not_new q)
+  not_first xs (inr i) = i
+
+  pub In-inserted : (xs : List X) → In xs d → In (insert_by_key key before same new xs) d
+  In-inserted [] i = absurd i
+  In-inserted (x ∷ xs) (inl q) = placed key before same order (λ ys. In ys d) new x xs
+      (λ _. inr (inl q))
+      (λ _ s. absurd (false≢true (sym apart ∙ subst (λ y. same (key new) (key y) ≡ true) (sym q) s)))
+      (λ _ _. inl q)
+  In-inserted (x ∷ xs) (inr i) = placed key before same order (λ ys. In ys d) new x xs
+      (λ _. inr (inr i))
+      (λ _ _. inr i)
+      (λ _ _. inr (In-inserted xs i))
+
+  pub In-from_inserted : (xs : List X) → In (insert_by_key key before same new xs) d → In xs d
+  In-from_inserted [] i = not_first [] i
+  In-from_inserted (x ∷ xs) i = placed key before same order (λ ys. In ys d → In (x ∷ xs) d) new x xs
+      (λ _ j. not_first (x ∷ xs) j)
+      (λ _ _ j. inr (not_first xs j))
+      (λ _ _ j. ⊎_elim (λ q. inl q) (λ k. inr (In-from_inserted xs k)) j)
+      i

@@ -1,6 +1,7 @@
 -- Changes of a class graph that aren't refused keep it lawful.
-use Rattle.std.proofs.Common.{◌≡◌, ◌==◌, ◌≢◌, ℕ, ◌≤◌, ◌<◌, Bool, false, cond, not, ◌&&◌, IsTrue, List, [], ◌∷◌, length, filter, find, refl, sym, ap, subst, ◌∙◌, ◌⊎◌, ⊎_elim, eqb-true, eq-eqb, ltb-false, leb-false, nat_lt, nat_le, arith, replicate, None, Some}
-use Rattle.std.proofs.lemmas.Bool.{or_cases, or_left, or_right, and_parts, false≢true, not-false, false_from_ne_true, cases_Bool, not_from_false}
+use Rattle.std.proofs.Common.{◌≡◌, ◌==◌, ◌≢◌, ℕ, ◌≤◌, ◌<◌, Bool, false, not, IsTrue, List, [], ◌∷◌, length, filter, find, refl, sym, ap, subst, ◌∙◌, ◌⊎◌, ⊎_elim, eqb-true, eq-eqb, ltb-false, leb-false, nat_lt, nat_le, arith, replicate, None}
+use Rattle.std.proofs.lemmas.Bool.{or_cases, or_left, or_right, and_parts, false≢true, not-false, false_from_ne_true, not_from_false}
+use Rattle.std.proofs.lemmas.Bool.Decides.{nat_tests}
 use Rattle.std.proofs.lemmas.List.Elements.{All-nil}
 use Rattle.dt_graph.specs.Graph.{Link, Graph, empty_graph, has_number, is_live, is_link, has_link, parent_count, insert_number, insert_link, insert_links, AscendingLinks}
 use Rattle.dt_graph.specs.Below.{Leads, HasNoCycle, is_below}
@@ -17,6 +18,7 @@ use Rattle.dt_graph.proofs.Walks.{LinksIn, Leads_more, IsBelow-from_test, is_bel
 use Rattle.dt_graph.proofs.Refusals.{no_test, no_found, none_passes}
 use Rattle.dt_graph.proofs.ParentLists.{has_link_listed, parent_count_listed}
 use Rattle.dt_graph.proofs.LinkLists.{each_number, all_numbers, each_link, all_links, has_number-placed, has_link-placed, has_link-each_placed, has_number-filter, has_number-kept, has_link-filter, parent_count-placed, parent_count-each_placed, parent_count-filter}
+use Rattle.dt_graph.proofs.AscendingSets.{nothing_listed}
 use Rattle.dt_graph.proofs.Ascending.{AscendingNumbers-placed, AscendingNumbers-filter, AscendingLinks-placed, AscendingLinks-filter}
 
 -- ---- what a lawful graph's links say, link by link
@@ -65,13 +67,8 @@ empty_lawful = record {
 
 -- a class that isn't live has no parents
 pub no_parents : (g : Graph) (class : ℕ) → JoinsLive g → is_live g class ≡ false → parents_of g.links class ≡ []
-no_parents g class joins not_live = go (parents_of g.links class) refl
-  where
-    go : (ps : List ℕ) → parents_of g.links class ≡ ps → parents_of g.links class ≡ []
-    go [] same = same
-    go (p ∷ ps) same =
-        let linked : IsTrue (has_link g.links class p) = has_link_listed g.links class p ∙ ap (λ ns. has_number ns p) same ∙ or_left (p == p) (has_number ps p) (eq-eqb p p refl) in
-        absurd (false≢true (sym not_live ∙ (joins class p linked).0))
+no_parents g class joins not_live = nothing_listed (parents_of g.links class) (λ p. sym (has_link_listed g.links class p)
+    ∙ false_from_ne_true _ (λ linked. false≢true (sym not_live ∙ (joins class p linked).0)))
 
 no_parent_count : (g : Graph) (class : ℕ) → JoinsLive g → is_live g class ≡ false → parent_count g.links class ≡ 0
 no_parent_count g class joins not_live = parent_count_listed g.links class ∙ ap length (no_parents g class joins not_live)
@@ -122,27 +119,16 @@ add_keeps g class parents lawful in_range none = record {
       (λ fresh. (is_new a fresh.0, still b (may.live b fresh.1)))
       (λ old. (still a (joins a b old).0, still b (joins a b old).1))
       (has_link-each_placed class parents g.links a b linked));
-  few_parents = λ c. ⊎_elim
-      (λ here.
-      let same : class ≡ c = eqb-true class c here in
-      let none_yet : parent_count g.links c ≡ 0 = (let P : ℕ → Type 0 = λ n. parent_count g.links n ≡ 0 in subst P same (no_parent_count g class joins may.new)) in
+  few_parents = λ c.
       let most = parent_count-each_placed class parents g.links c in
-      let at_class : cond (class == c) (length parents) 0 ≡ length parents = rw here refl in
-      omega (arith, most, at_class, none_yet, may.few))
-      (λ other.
-      let most = parent_count-each_placed class parents g.links c in
-      let elsewhere : cond (class == c) (length parents) 0 ≡ 0 = rw other refl in
-      omega (arith, most, elsewhere, lawful.few_parents c))
-      (cases_Bool (class == c));
-  no_cycle = no_cycle new.links (λ a b linked test. ⊎_elim
-      (λ fresh.
+      let none_yet = no_parent_count g class joins may.new in
+      let old = lawful.few_parents c in let few = may.few in grind (arith, nat_tests);
+  no_cycle = no_cycle new.links (λ a b linked test.
       let steps = IsBelow-from_test new.links b a test in
-      let round : Leads g.links b steps.0 a = apart_from class g.links new.links no_way_in old_link steps.0 b a (not_class a b linked) steps.1 in
-      ends_elsewhere a steps.0 b (not_class a b linked) round fresh.0)
-      (λ old.
-      let steps = IsBelow-from_test new.links b a test in
-      let round : Leads g.links b steps.0 a = apart_from class g.links new.links no_way_in old_link steps.0 b a (not_class a b linked) steps.1 in
-      no_round g.links lawful.no_cycle a b old (is_below-from_steps g.links steps.0 b a round))
+      let round = apart_from class g.links new.links no_way_in old_link steps.0 b a (not_class a b linked) steps.1 in
+      ⊎_elim
+      (λ fresh. ends_elsewhere a steps.0 b (not_class a b linked) round fresh.0)
+      (λ old. no_round g.links lawful.no_cycle a b old (is_below-from_steps g.links steps.0 b a round))
       (has_link-each_placed class parents g.links a b linked));
 }
   where
@@ -184,19 +170,10 @@ add_keeps g class parents lawful in_range none = record {
 -- ---- a class is dropped
 
 -- where no class has it as a parent, no link leads to it
-none_has_parent : (links : List Link) (class : ℕ) → lowest_subclass links class ≡ None → (a : ℕ) → IsTrue (has_link links a class) → ⊥
-none_has_parent [] class none a linked = false≢true linked
-none_has_parent (link ∷ links) class none a linked = ⊎_elim
-    (λ here.
-    let found : Some link.class ≡ None = sym (rw here refl) ∙ none in
-    absurd (cc))
-    (λ other.
-    let rest : lowest_subclass links class ≡ None = sym (rw other refl) ∙ none in
-    ⊎_elim
-    (λ first. false≢true (sym other ∙ (and_parts (link.class == a) (link.parent == class) first).1))
-    (λ later. none_has_parent links class rest a later)
-    (or_cases (is_link a class link) (has_link links a class) linked))
-    (cases_Bool (link.parent == class))
+none_has_parent : (links : List Link) (class : ℕ) → lowest_subclass links class ≡ None → (a : ℕ) → has_link links a class ≡ false
+none_has_parent [] class none a = refl
+none_has_parent (link ∷ links) class none a =
+    let rest : lowest_subclass links class ≡ None → has_link links a class ≡ false = λ later. none_has_parent links class later a in grind arith
 
 -- fewer links make no cycle
 fewer_no_cycle : (links fewer : List Link) → LinksIn fewer links → HasNoCycle links → HasNoCycle fewer
@@ -228,7 +205,8 @@ drop_keeps g class lawful none = record {
     keeps_link link = not (link.class == class)
 
     no_way_in : (a : ℕ) → IsTrue (has_link g.links a class) → ⊥
-    no_way_in = none_has_parent g.links class (no_found HasSubclasses (lowest_subclass g.links class) _ (no_test (not (is_live g class)) (ClassUnknown class) _ none).1).0
+    no_way_in a linked = false≢true (sym (none_has_parent g.links class
+        (no_found HasSubclasses (lowest_subclass g.links class) _ (no_test (not (is_live g class)) (ClassUnknown class) _ none).1).0 a) ∙ linked)
 
 -- ---- a link is made
 
@@ -266,28 +244,17 @@ link_keeps g class parent lawful none = record {
       (subst Live (eqb-true class a ends.0) may.class_live, subst Live (eqb-true parent b ends.1) may.parent_live))
       (λ old. joins_live g lawful a b old)
       (cases a b linked));
-  few_parents = λ c. ⊎_elim
-      (λ here.
-      let at_class : ◌≡◌ {A = ℕ} (cond (class == c) 1 0) 1 = rw here refl in
-      let room : parent_count g.links c < PARENTS = (let P : ℕ → Type 0 = λ n. parent_count g.links n < PARENTS in subst P (eqb-true class c here) may.room) in
-      omega (arith, parent_count-placed link g.links c, at_class, room))
-      (λ other.
-      let elsewhere : ◌≡◌ {A = ℕ} (cond (class == c) 1 0) 0 = rw other refl in
-      omega (arith, parent_count-placed link g.links c, elsewhere, lawful.few_parents c))
-      (cases_Bool (class == c));
-  no_cycle = no_cycle new.links (λ a b linked test. ⊎_elim
-      (λ here.
-      let ends = and_parts (class == a) (parent == b) here in
-      let From : ℕ → Type 0 = λ n. IsTrue (is_below (link ∷ g.links) n class) in
-      let To : ℕ → Type 0 = λ n. IsTrue (is_below (link ∷ g.links) b n) in
-      back (subst From (sym (eqb-true parent b ends.1)) (subst To (sym (eqb-true class a ends.0)) (with_link b a test))))
-      (λ old. ⊎_elim
-      (λ before. no_round g.links lawful.no_cycle a b old before)
-      (λ through.
-      let both = and_parts (is_below g.links b class) (is_below g.links parent a) through in
-      false≢true (sym may.no_way_back ∙ is_below_trans g.links parent a class both.1 (is_below_step g.links a b class old both.0)))
-      (or_cases (is_below g.links b a) (is_below g.links b class && is_below g.links parent a) (with_link b a test)))
-      (cases a b linked));
+  few_parents = λ c.
+      let more = parent_count-placed link g.links c in
+      let same : class ≡ c → parent_count g.links c ≡ parent_count g.links class = λ e. ap (parent_count g.links) (sym e) in
+      let old = lawful.few_parents c in let room = may.room in grind (arith, nat_tests);
+  no_cycle = no_cycle new.links (λ a b linked test.
+      let known = cases a b linked in
+      let way = with_link b a test in
+      let round = no_round g.links lawful.no_cycle a b in
+      let step = is_below_step g.links a b class in
+      let around = is_below_trans g.links parent a class in
+      let no = may.no_way_back in grind (arith, nat_tests));
 }
   where
     link : Link
@@ -304,12 +271,6 @@ link_keeps g class parent lawful none = record {
 
     with_link : (a b : ℕ) → IsTrue (is_below new.links a b) → IsTrue (is_below (link ∷ g.links) a b)
     with_link = is_below_more new.links (link ∷ g.links) (λ a b linked. sym (has_link-placed link g.links a b) ∙ linked)
-
-    back : IsTrue (is_below (link ∷ g.links) parent class) → ⊥
-    back test = ⊎_elim
-        (λ before. false≢true (sym may.no_way_back ∙ before))
-        (λ through. false≢true (sym may.no_way_back ∙ (and_parts (is_below g.links parent class) (is_below g.links parent class) through).0))
-        (or_cases (is_below g.links parent class) (is_below g.links parent class && is_below g.links parent class) test)
 
 -- ---- a link is taken away
 

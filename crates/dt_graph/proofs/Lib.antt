@@ -26,5 +26,3 @@ pub mod Effects
 pub mod ListsOfGraphs
 pub mod Needed
 pub mod Undone
-pub mod PlacedMembers
-pub mod SetSizes

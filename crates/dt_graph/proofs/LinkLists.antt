@@ -1,41 +1,35 @@
 -- Which numbers and links stand in a list after one is placed there or some are left out.
-use Rattle.std.proofs.Common.{◌≡◌, ◌==◌, ℕ, ◌+◌, ◌≤◌, Bool, true, false, cond, ◌||◌, ◌&&◌, IsTrue, List, [], ◌∷◌, length, filter, refl, sym, ap, subst, ◌∙◌, ◌⊎◌, inl, inr, ⊎_elim, eqb-true, eq-eqb, arith, All}
-use Rattle.std.proofs.lemmas.Bool.{or_cases, or_left, or_right, and_parts, and_from, false≢true, cond_both}
+use Rattle.std.proofs.Common.{◌≡◌, ◌==◌, ℕ, ◌+◌, ◌≤◌, Bool, true, cond, ◌||◌, ◌&&◌, IsTrue, List, [], ◌∷◌, length, filter, refl, sym, ap, subst, ◌∙◌, ◌⊎◌, inl, inr, ⊎_elim, eqb-true, eq-eqb, arith, All}
+use Rattle.std.proofs.lemmas.Bool.{or_cases, and_parts, and_from}
 use Rattle.std.proofs.lemmas.Bool.Decides.{nat_tests}
-use Rattle.std.proofs.lemmas.List.Elements.{All-nil, All-cons, All-head, All-tail}
-use Rattle.dt_graph.specs.Graph.{Link, has_number, is_link, has_link, is_link_before, parent_count, insert_number, insert_link, insert_links}
+use Rattle.dt_graph.specs.Graph.{Link, has_number, is_link, has_link, parent_count, insert_number, insert_link, insert_links}
+use Rattle.dt_graph.proofs.ListMembers.{any_from_In, In-from_any, All-from_In, All-In}
 use Rattle.dt_graph.proofs.ParentLists.{parent_count-cons}
 
 -- ---- what holds of each number or link of a list
 
 pub each_number : (P : ℕ → Type 0) (numbers : List ℕ) → All P numbers → (n : ℕ) → IsTrue (has_number numbers n) → P n
-each_number P [] all n listed = absurd (false≢true listed)
-each_number P (x ∷ numbers) all n listed = ⊎_elim
-    (λ here. subst P (eqb-true x n here) (All-head P x numbers all))
-    (λ later. each_number P numbers (All-tail P x numbers all) n later)
-    (or_cases (x == n) (has_number numbers n) listed)
+each_number P numbers all n listed =
+    let i = In-from_any (λ m. m == n) numbers listed in subst P (eqb-true i.0 n i.2) (All-In P numbers i.0 all i.1)
 
 pub all_numbers : (P : ℕ → Type 0) (numbers : List ℕ) → ((n : ℕ) → IsTrue (has_number numbers n) → P n) → All P numbers
-all_numbers P [] each = All-nil P
-all_numbers P (x ∷ numbers) each = All-cons P x numbers
-    (each x (or_left _ _ (eq-eqb x x refl)))
-    (all_numbers P numbers (λ n listed. each n (or_right (x == n) (has_number numbers n) listed)))
+all_numbers P numbers each = All-from_In P numbers (λ n i. each n (any_from_In (λ m. m == n) numbers n i (eq-eqb n n refl)))
+
+is_link-equal : (a b : ℕ) (link : Link) → IsTrue (is_link a b link) → link ≡ record { class = a; parent = b }
+is_link-equal a b link same =
+    let ends = and_parts (link.class == a) (link.parent == b) same in
+    let class : link.class ≡ a = eqb-true link.class a ends.0 in
+    let parent : link.parent ≡ b = eqb-true link.parent b ends.1 in
+    rw (sym class, sym parent) refl
 
 pub each_link : (P : ℕ → ℕ → Type 0) (links : List Link) → All (λ link. P link.class link.parent) links → (a b : ℕ) → IsTrue (has_link links a b) → P a b
-each_link P [] all a b listed = absurd (false≢true listed)
-each_link P (link ∷ links) all a b listed = ⊎_elim
-    (λ here.
-    let ends = and_parts (link.class == a) (link.parent == b) here in
-    let first : P a link.parent = subst (λ (n : ℕ). P n link.parent) (eqb-true link.class a ends.0) (All-head (λ l. P l.class l.parent) link links all) in
-    subst (P a) (eqb-true link.parent b ends.1) first)
-    (λ later. each_link P links (All-tail (λ l. P l.class l.parent) link links all) a b later)
-    (or_cases (is_link a b link) (has_link links a b) listed)
+each_link P links all a b listed =
+    let i = In-from_any (is_link a b) links listed in
+    subst (λ (l : Link). P l.class l.parent) (is_link-equal a b i.0 i.2) (All-In (λ l. P l.class l.parent) links i.0 all i.1)
 
 pub all_links : (P : ℕ → ℕ → Type 0) (links : List Link) → ((a b : ℕ) → IsTrue (has_link links a b) → P a b) → All (λ link. P link.class link.parent) links
-all_links P [] each = All-nil (λ l. P l.class l.parent)
-all_links P (link ∷ links) each = All-cons (λ l. P l.class l.parent) link links
-    (each link.class link.parent (or_left _ _ (and_from _ _ (eq-eqb link.class link.class refl) (eq-eqb link.parent link.parent refl))))
-    (all_links P links (λ a b listed. each a b (or_right (is_link a b link) (has_link links a b) listed)))
+all_links P links each = All-from_In (λ l. P l.class l.parent) links (λ l i. each l.class l.parent (any_from_In (is_link l.class l.parent) links l i
+    (and_from _ _ (eq-eqb l.class l.class refl) (eq-eqb l.parent l.parent refl))))
 
 -- ---- after one more is placed
 
@@ -75,13 +69,6 @@ has_number-filter test numbers n kept = and_parts (has_number numbers n) (test n
 pub has_number-kept : (test : ℕ → Bool) (numbers : List ℕ) (n : ℕ) → IsTrue (has_number numbers n) → test n ≡ true → IsTrue (has_number (filter test numbers) n)
 has_number-kept test numbers n listed passes = has_number-filtered test numbers n ∙ and_from (has_number numbers n) (test n) listed passes
 
-is_link-equal : (a b : ℕ) (link : Link) → IsTrue (is_link a b link) → link ≡ record { class = a; parent = b }
-is_link-equal a b link same =
-    let ends = and_parts (link.class == a) (link.parent == b) same in
-    let class : link.class ≡ a = eqb-true link.class a ends.0 in
-    let parent : link.parent ≡ b = eqb-true link.parent b ends.1 in
-    rw (sym class, sym parent) refl
-
 pub has_link-filtered : (test : Link → Bool) (links : List Link) (a b : ℕ) → has_link (filter test links) a b ≡ (has_link links a b && test (record { class = a; parent = b }))
 has_link-filtered test [] a b = refl
 has_link-filtered test (link ∷ links) a b =
@@ -96,13 +83,12 @@ has_link-filter test links a b kept =
 
 pub parent_count-placed : (link : Link) (links : List Link) (class : ℕ) → parent_count (insert_link link links) class ≤ cond (link.class == class) 1 0 + parent_count links class
 parent_count-placed link [] class = omega (arith, parent_count-cons link [] class)
-parent_count-placed link (l ∷ links) class = cond_both (is_link_before link l) (link ∷ l ∷ links) (cond (is_link link.class link.parent l) (link ∷ links) (l ∷ insert_link link links))
-    (λ ls. parent_count ls class ≤ cond (link.class == class) 1 0 + parent_count (l ∷ links) class)
-    (λ before. omega (arith, parent_count-cons link (l ∷ links) class))
-    (λ after. cond_both (is_link link.class link.parent l) (link ∷ links) (l ∷ insert_link link links)
-    (λ ls. parent_count ls class ≤ cond (link.class == class) 1 0 + parent_count (l ∷ links) class)
-    (λ same. omega (arith, parent_count-cons link links class, parent_count-cons l links class))
-    (λ other. omega (arith, parent_count-cons l (insert_link link links) class, parent_count-cons l links class, parent_count-placed link links class)))
+parent_count-placed link (l ∷ links) class =
+    let first = parent_count-cons link (l ∷ links) class in
+    let here = parent_count-cons link links class in
+    let own = parent_count-cons l links class in
+    let later = parent_count-cons l (insert_link link links) class in
+    let rest = parent_count-placed link links class in grind arith
 
 pub parent_count-each_placed : (class : ℕ) (parents : List ℕ) (links : List Link) (c : ℕ) → parent_count (insert_links class parents links) c ≤ cond (class == c) (length parents) 0 + parent_count links c
 parent_count-each_placed class [] links c = omega arith
@@ -110,15 +96,14 @@ parent_count-each_placed class (p ∷ parents) links c =
     let link : Link = record { class = class; parent = p } in
     let more = parent_count-each_placed class parents (insert_link link links) c in
     let one = parent_count-placed link links c in
-    let Bound : Bool → Type 0 = λ b. (parent_count (insert_links class parents (insert_link link links)) c ≤ cond b (length parents) 0 + parent_count (insert_link link links) c) → (parent_count (insert_link link links) c ≤ cond b 1 0 + parent_count links c) → parent_count (insert_links class parents (insert_link link links)) c ≤ cond b (length (p ∷ parents)) 0 + parent_count links c in
-    elim (class == c) as Bound [ true ↦ λ m o. omega arith | false ↦ λ m o. omega arith ] more one
+    grind arith
 
 pub parent_count-filter : (test : Link → Bool) (links : List Link) (class : ℕ) → parent_count (filter test links) class ≤ parent_count links class
 parent_count-filter test [] class = omega arith
-parent_count-filter test (l ∷ links) class = cond_both (test l) (l ∷ filter test links) (filter test links)
-    (λ ls. parent_count ls class ≤ parent_count (l ∷ links) class)
-    (λ passes. omega (arith, parent_count-cons l (filter test links) class, parent_count-cons l links class, parent_count-filter test links class))
-    (λ fails. omega (arith, parent_count-cons l links class, parent_count-filter test links class))
+parent_count-filter test (l ∷ links) class =
+    let kept = parent_count-cons l (filter test links) class in
+    let own = parent_count-cons l links class in
+    let rest = parent_count-filter test links class in grind arith
 
 -- one is placed, so there is one more at most
 pub length-placed : (new : ℕ) (numbers : List ℕ) → length (insert_number new numbers) ≤ length numbers + 1

@@ -91,36 +91,25 @@ module _ {T : Type 0} (p : T → Bool) where
   filter_none_in [] f = refl
   filter_none_in (y ∷ ys) f = rw (f y (inl refl)) (filter_none_in ys (λ x i. f x (inr i)))
 
-  In-filter-cons : (b : Bool) (y : T) (ys : List T) (x : T) → p y ≡ b → In (cond b (y ∷ filter p ys) (filter p ys)) x →
-      (In (filter p ys) x → In ys x × (p x ≡ true)) → In (y ∷ ys) x × (p x ≡ true)
-  In-filter-cons true y ys x e (inl q) f = (inl q, ap p q ∙ e)
-  In-filter-cons true y ys x e (inr i) f = (inr (f i).0, (f i).1)
-  In-filter-cons false y ys x e i f = (inr (f i).0, (f i).1)
-
   -- what a filter keeps was there and passes
   pub In-from_filter : (xs : List T) (x : T) → In (filter p xs) x → In xs x × (p x ≡ true)
   In-from_filter [] x i = absurd i
-  In-from_filter (y ∷ ys) x i = In-filter-cons (p y) y ys x refl i (In-from_filter ys x)
+  In-from_filter (y ∷ ys) x i = by_cases (p y)
+      (λ e. ⊎_elim (λ q. (inl q, ap p q ∙ e)) (λ j. let r = In-from_filter ys x j in (inr r.0, r.1)) (rw e at i))
+      (λ e. let r = In-from_filter ys x (rw e at i) in (inr r.0, r.1))
 
 -- a number that is listed and passes makes the test of any true, and the other way round
 pub any_listed : (test : ℕ → Bool) (numbers : List ℕ) (n : ℕ) → IsTrue (has_number numbers n) → IsTrue (test n) →
     IsTrue (list_any test numbers)
-any_listed test [] n listed passes = absurd (false≢true listed)
-any_listed test (x ∷ numbers) n listed passes = ⊎_elim
-    (λ here. or_left (test x) (list_any test numbers)
-    (let P : ℕ → Type 0 = λ m. IsTrue (test m) in subst P (sym (eqb-true x n here)) passes))
-    (λ later. or_right (test x) (list_any test numbers) (any_listed test numbers n later passes))
-    (or_cases (x == n) (has_number numbers n) listed)
+any_listed test numbers n listed passes =
+    let i = In-from_any (λ m. m == n) numbers listed in
+    any_from_In test numbers i.0 i.1 (subst (λ m. IsTrue (test m)) (sym (eqb-true i.0 n i.2)) passes)
 
 pub listed_any : (test : ℕ → Bool) (numbers : List ℕ) → IsTrue (list_any test numbers) →
     (n : ℕ) × (IsTrue (has_number numbers n) × IsTrue (test n))
-listed_any test [] any = absurd (false≢true any)
-listed_any test (x ∷ numbers) any = ⊎_elim
-    (λ here. (x, (or_left (x == x) (has_number numbers x) (eq-eqb x x refl), here)))
-    (λ later.
-    let rest = listed_any test numbers later in
-    (rest.0, (or_right (x == rest.0) (has_number numbers rest.0) rest.1.0, rest.1.1)))
-    (or_cases (test x) (list_any test numbers) any)
+listed_any test numbers any =
+    let i = In-from_any test numbers any in
+    (i.0, (any_from_In (λ m. m == i.0) numbers i.0 i.1 (eq-eqb i.0 i.0 refl), i.2))
 
 module _ {T : Type 0} (P : T → Type 0) where
   -- what holds of all elements holds of each, and the other way round
@@ -140,10 +129,7 @@ module _ {T : Type 0} (p q : T → Bool) where
   filter_fewer [] f = omega arith
   filter_fewer (y ∷ ys) f =
       let fewer = filter_fewer ys (λ x i. f x (inr i)) in
-      by_cases (p y)
-      (λ e. rw (e, f y (inl refl) e) (omega (arith, fewer)))
-      (λ e. rw e (elim (q y) as (λ v. length (filter p ys) ≤ length (cond v (y ∷ filter q ys) (filter q ys)))
-      [ true ↦ omega (arith, fewer) | false ↦ fewer ]))
+      let own = f y (inl refl) in grind arith
 
   -- tests that agree at each element answer the same of any
   pub list_any_agree_in : (xs : List T) → ((x : T) → In xs x → p x ≡ q x) → list_any p xs ≡ list_any q xs

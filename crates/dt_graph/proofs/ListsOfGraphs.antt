@@ -1,5 +1,5 @@
 -- What the lists made from a graph tell of it, and in which order: parents, and the lowest subclass.
-use Rattle.std.proofs.Common.{◌≡◌, ◌==◌, ℕ, ◌≤◌, true, false, cond, ◌&&◌, IsTrue, List, [], ◌∷◌, Option, None, Some, refl, sym, subst, eqb-true, nat_lt, arith, All}
+use Rattle.std.proofs.Common.{◌≡◌, ◌==◌, ℕ, ◌≤◌, false, ◌&&◌, IsTrue, List, [], ◌∷◌, Option, None, Some, sym, subst, eqb-true, nat_lt, arith, All}
 use Rattle.std.proofs.lemmas.Bool.Decides.{nat_tests}
 use Rattle.std.proofs.lemmas.List.Elements.{All-nil, All-cons, All-head, All-tail}
 use Rattle.dt_graph.specs.Graph.{Link, Graph, has_number, is_live, has_link, is_link_before, AscendingLinks}
@@ -9,6 +9,7 @@ use Rattle.dt_graph.specs.Descendants.{descendants}
 use Rattle.dt_graph.specs.Lawful.{AscendingNumbers}
 use Rattle.dt_graph.specs.GraphChange.{lowest_subclass}
 use Rattle.dt_graph.proofs.ParentLists.{has_link_listed}
+use Rattle.dt_graph.proofs.ListMembers.{by_cases}
 use Rattle.dt_graph.proofs.Ascending.{AscendingNumbers-cons, AscendingNumbers-filter, LinkBelowAll, link_below_rest, links_tail}
 use Rattle.dt_graph.proofs.Subclasses.{IsLowest, lowest_linked}
 use Rattle.dt_graph.proofs.LinkLists.{has_number-filtered}
@@ -23,22 +24,20 @@ parents_above : (l : Link) (class : ℕ) (links : List Link) → l.class ≡ cla
 parents_above l class [] own after = All-nil (λ p. IsTrue (nat_lt l.parent p))
 parents_above l class (m ∷ links) own after =
     let rest = parents_above l class links own (All-tail (λ k. IsTrue (is_link_before l k)) m links after) in
-    elim (m.class == class) as (λ t. (m.class == class) ≡ t → All (λ p. IsTrue (nat_lt l.parent p)) (cond t (m.parent ∷ parents_of links class) (parents_of links class))) [
-      | true ↦ λ e.
-          let same = eqb-true m.class class e in
-          let before = All-head (λ k. IsTrue (is_link_before l k)) m links after in
-          All-cons (λ p. IsTrue (nat_lt l.parent p)) m.parent (parents_of links class) (grind (arith, nat_tests)) rest
-      | false ↦ λ e. rest
-    ] refl
+    by_cases (m.class == class)
+    (λ e.
+    let same = eqb-true m.class class e in
+    let before = All-head (λ k. IsTrue (is_link_before l k)) m links after in
+    rw e (All-cons (λ p. IsTrue (nat_lt l.parent p)) m.parent (parents_of links class) (grind (arith, nat_tests)) rest))
+    (λ e. rw e rest)
 
 pub parents_ascend : (links : List Link) (class : ℕ) → AscendingLinks links → AscendingNumbers (parents_of links class)
 parents_ascend [] class ascending = tt
 parents_ascend (l ∷ links) class ascending =
     let rest = parents_ascend links class (links_tail l links ascending) in
-    elim (l.class == class) as (λ t. (l.class == class) ≡ t → AscendingNumbers (cond t (l.parent ∷ parents_of links class) (parents_of links class))) [
-      | true ↦ λ e. AscendingNumbers-cons l.parent (parents_of links class) (parents_above l class links (eqb-true l.class class e) (link_below_rest l links ascending)) rest
-      | false ↦ λ e. rest
-    ] refl
+    by_cases (l.class == class)
+    (λ e. rw e (AscendingNumbers-cons l.parent (parents_of links class) (parents_above l class links (eqb-true l.class class e) (link_below_rest l links ascending)) rest))
+    (λ e. rw e rest)
 
 -- ---- descendants
 

@@ -1,7 +1,7 @@
 -- A change is refused for no other reason than those for which it must be: it is void, or it leaves no lawful graph.
-use Rattle.std.proofs.Common.{◌≡◌, ◌==◌, ℕ, suc, ◌<◌, ◌≤◌, Bool, false, cond, not, ◌&&◌, IsTrue, ◌↔◌, List, [], ◌∷◌, length, Option, None, Some, find, refl, sym, ap, subst, ◌∙◌, ⊎_elim, eqb-true, eq-eqb, nat_lt, nat_le, arith}
-use Rattle.std.proofs.lemmas.Bool.{or_cases, or_left, or_right, or_parts, and_from, false≢true, false_from_ne_true, not-false, cond_both, le-ltb, lt-leb}
-use Rattle.dt_graph.specs.Graph.{Link, Graph, has_number, is_live, is_link, has_link, is_link_before, parent_count, insert_link}
+use Rattle.std.proofs.Common.{◌≡◌, ◌==◌, ℕ, suc, ◌<◌, ◌≤◌, Bool, false, cond, not, ◌&&◌, IsTrue, ◌↔◌, List, [], ◌∷◌, length, Option, None, Some, find, refl, sym, ap, subst, ◌∙◌, eqb-true, eq-eqb, nat_lt, nat_le, arith}
+use Rattle.std.proofs.lemmas.Bool.{or_left, or_right, and_from, false≢true, false_from_ne_true, not-false, le-ltb, lt-leb}
+use Rattle.dt_graph.specs.Graph.{Link, Graph, has_number, is_live, has_link, parent_count, insert_link}
 use Rattle.dt_graph.specs.Below.{is_below}
 use Rattle.dt_graph.specs.Lawful.{LawfulGraph}
 use Rattle.dt_graph.specs.GraphChange.{add_cause, add_effect, drop_cause, drop_effect, link_cause, link_effect, unlink_cause, lowest_subclass, first_repeated}
@@ -11,7 +11,7 @@ use Rattle.dt_graph.proofs.Walks.{LinksIn, is_below_more, is_below_self}
 use Rattle.dt_graph.proofs.ParentLists.{parent_count-cons}
 use Rattle.dt_graph.proofs.Refusals.{no_test, no_found}
 use Rattle.dt_graph.proofs.LawfulChanges.{joins_live, no_round, add_keeps, drop_keeps, link_keeps, may_be_added, may_be_linked}
-use Rattle.dt_graph.proofs.Effects.{live_after_add, links_after_add, live_after_drop, links_after_drop, links_after_link, never_own}
+use Rattle.dt_graph.proofs.Effects.{live_after_add, links_after_add, live_after_drop, links_after_drop, links_after_link, link_made, never_own}
 use Rattle.dt_graph.proofs.ListsOfGraphs.{lowest_is_subclass}
 
 -- ---- a link
@@ -24,19 +24,16 @@ parent_count-new class parent [] absent =
 parent_count-new class parent (l ∷ links) absent =
     let new : Link = record { class = class; parent = parent } in
     let own : ◌≡◌ {A = ℕ} (cond (class == class) 1 0) 1 = rw (eq-eqb class class refl) refl in
-    let parts = or_parts (is_link class parent l) (has_link links class parent) absent in
-    cond_both (is_link_before new l) (new ∷ l ∷ links) (cond (is_link class parent l) (new ∷ links) (l ∷ insert_link new links))
-    (λ ls. parent_count ls class ≡ suc (parent_count (l ∷ links) class))
-    (λ before. omega (arith, parent_count-cons new (l ∷ links) class, own))
-    (λ after. rw parts.0 (omega (arith, parent_count-cons l (insert_link new links) class, parent_count-cons l links class, parent_count-new class parent links parts.1)))
+    let first = parent_count-cons new (l ∷ links) class in
+    let later = parent_count-cons l (insert_link new links) class in
+    let others = parent_count-cons l links class in
+    let rest = parent_count-new class parent links in grind arith
 
 link_allowed : (g : Graph) (class parent : ℕ) → has_link g.links class parent ≡ false → LawfulGraph (link_effect g class parent) → link_cause g class parent ≡ None
 link_allowed g class parent absent lawful = rw (live.0, live.1, absent, room, no_way_back) refl
   where
     linked : IsTrue (has_link (link_effect g class parent).links class parent)
-    linked =
-        links_after_link g class parent class parent
-        ∙ or_left ((class == class) && (parent == parent)) (has_link g.links class parent) (and_from (class == class) (parent == parent) (eq-eqb class class refl) (eq-eqb parent parent refl))
+    linked = link_made g class parent
 
     live : IsTrue (is_live g class) × IsTrue (is_live g parent)
     live = joins_live (link_effect g class parent) lawful class parent linked
@@ -120,12 +117,12 @@ add_allowed g class parents new few once lawful = rw (new, le-ltb PARENTS (lengt
         ∙ or_left ((class == class) && has_number parents p) (has_link g.links class p) (and_from (class == class) (has_number parents p) (eq-eqb class class refl) listed)
 
     live : (p : ℕ) → IsTrue (has_number parents p) → IsTrue (is_live g p)
-    live p listed = ⊎_elim
-        (λ own.
-        let P : ℕ → Type 0 = λ n. IsTrue (is_below (add_effect g class parents).links p n) in
-        absurd (no_round (add_effect g class parents).links lawful.no_cycle class p (linked p listed) (subst P (sym (eqb-true class p own)) (is_below_self (add_effect g class parents).links p))))
-        (λ old. old)
-        (or_cases (class == p) (is_live g p) (sym (live_after_add g class parents p) ∙ (joins_live (add_effect g class parents) lawful class p (linked p listed)).1))
+    live p listed =
+        let added = live_after_add g class parents p in
+        let ends = (joins_live (add_effect g class parents) lawful class p (linked p listed)).1 in
+        let apart : IsTrue (class == p) → ⊥ = λ own. no_round (add_effect g class parents).links lawful.no_cycle class p (linked p listed)
+        (subst (λ n. IsTrue (is_below (add_effect g class parents).links p n)) (sym (eqb-true class p own)) (is_below_self (add_effect g class parents).links p)) in
+        grind arith
 
     none_unknown : find (λ p. not (is_live g p)) parents ≡ None
     none_unknown = none_found (λ p. not (is_live g p)) parents (λ p listed. ap not (live p listed))

@@ -1,5 +1,5 @@
 -- The list of a class's parents against its links.
-use Rattle.std.proofs.Common.{◌≡◌, ◌==◌, ℕ, ◌+◌, true, false, cond, List, [], ◌∷◌, ◌++◌, length, refl, ◌∙◌, arith}
+use Rattle.std.proofs.Common.{◌≡◌, ◌==◌, ℕ, ◌+◌, cond, List, [], ◌∷◌, ◌++◌, length, refl, arith}
 use Rattle.std.proofs.lemmas.List.Sums.{sum_by-cons}
 use Rattle.dt_graph.specs.Graph.{Link, has_number, has_link, parent_count}
 use Rattle.dt_graph.specs.Parents.{parents_of}
@@ -16,11 +16,8 @@ parent_count-cons link links class = sum_by-cons (λ l. cond (l.class == class) 
 -- there are as many parents as are listed
 pub parent_count_listed : (links : List Link) (class : ℕ) → parent_count links class ≡ length (parents_of links class)
 parent_count_listed [] class = refl
-parent_count_listed (link ∷ links) class = parent_count-cons link links class ∙
-    elim (link.class == class) as (λ b. cond b 1 0 + parent_count links class ≡ length (cond b (link.parent ∷ parents_of links class) (parents_of links class))) [
-      | true ↦ omega (arith, parent_count_listed links class)
-      | false ↦ omega (arith, parent_count_listed links class)
-    ]
+parent_count_listed (link ∷ links) class =
+    let one = parent_count-cons link links class in let rest = parent_count_listed links class in grind arith
 
 pub parents_of-append : (first second : List Link) (class : ℕ) → parents_of (first ++ second) class ≡ parents_of first class ++ parents_of second class
 parents_of-append [] second class = refl

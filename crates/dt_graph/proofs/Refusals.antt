@@ -1,6 +1,6 @@
 -- What is known where no cause of a refusal is there.
-use Rattle.std.proofs.Common.{◌≡◌, ℕ, Bool, true, false, IsTrue, List, [], ◌∷◌, Option, None, Some, find, option_map, refl, sym, ◌∙◌, ◌==◌, ⊎_elim, eqb-true, subst}
-use Rattle.std.proofs.lemmas.Bool.{or_cases, false≢true, cases_Bool, cond-true, cond-false}
+use Rattle.std.proofs.Common.{◌≡◌, ℕ, Bool, true, false, IsTrue, List, [], ◌∷◌, Option, None, Some, find, option_map, refl, ◌==◌, eqb-true, ap, arith}
+use Rattle.std.proofs.lemmas.Bool.{false≢true}
 use Rattle.dt_graph.specs.Refusal.{cause_if, first_cause}
 use Rattle.dt_graph.specs.Graph.{has_number}
 
@@ -17,12 +17,6 @@ no_found cause (Some x) causes none = absurd (cc)
 -- where no number passes the test, none of the list does
 pub none_passes : (test : ℕ → Bool) (numbers : List ℕ) → find test numbers ≡ None → (n : ℕ) → IsTrue (has_number numbers n) → test n ≡ false
 none_passes test [] none n listed = absurd (false≢true listed)
-none_passes test (x ∷ numbers) none n listed = ⊎_elim
-    (λ passes.
-    let found : Some x ≡ None = sym (cond-true (test x) (Some x) (find test numbers) passes) ∙ none in
-    absurd (cc))
-    (λ fails. ⊎_elim
-    (λ here. (let P : ℕ → Type 0 = λ m. test m ≡ false in subst P (eqb-true x n here) fails))
-    (λ later. none_passes test numbers (sym (cond-false (test x) (Some x) (find test numbers) fails) ∙ none) n later)
-    (or_cases (x == n) (has_number numbers n) listed))
-    (cases_Bool (test x))
+none_passes test (x ∷ numbers) none n listed =
+    let rest : find test numbers ≡ None → IsTrue (has_number numbers n) → test n ≡ false = λ later. none_passes test numbers later n in
+    let own : IsTrue (x == n) → test x ≡ test n = λ here. ap test (eqb-true x n here) in grind arith

@@ -1,5 +1,5 @@
 -- What a change of one row does to the live classes and to the links.
-use Rattle.std.proofs.Common.{◌≡◌, ◌==◌, ◌≢◌, ℕ, zero, suc, ◌+◌, ◌<◌, true, false, not, List, [], ◌∷◌, ◌++◌, length, get_or, set, filter, refl, sym, ap, ◌∙◌, eq-eqb, ne_eqb, lt-ltb, le-ltb, arith, set-set, length-set, get_or-set_same}
+use Rattle.std.proofs.Common.{◌≡◌, ◌==◌, ◌≢◌, ℕ, zero, suc, ◌+◌, ◌<◌, Bool, true, false, not, List, [], ◌∷◌, ◌++◌, length, get_or, set, filter, refl, sym, ap, ◌∙◌, eq-eqb, ne_eqb, lt-ltb, le-ltb, arith, set-set, length-set, get_or-set_same}
 use Rattle.std.proofs.lemmas.Bool.Decides.{nat_tests}
 use Rattle.std.proofs.lemmas.List.Elements.{filter-append}
 use Rattle.dt_graph.specs.Graph.{Link, is_link, insert_number, insert_link, insert_links}
@@ -102,54 +102,44 @@ links_from-filled rows i ps row d inside none filled =
 
 -- ---- links that go
 
--- the links but those of the class
-other_classes_links-to : (k q : ℕ) (ps : List ℕ) → k ≢ q → filter (λ (l : Link). not (l.class == q)) (links_to k ps) ≡ links_to k ps
-other_classes_links-to k q [] other = refl
-other_classes_links-to k q (x ∷ ps) other = rw (ne_eqb k q other) (ap (λ ls. record { class = k; parent = x } ∷ ls) (other_classes_links-to k q ps other))
+-- a test of links that all of other classes pass
+module _ (test : Link → Bool) (q : ℕ) (passes : (k p : ℕ) → k ≢ q → test (record { class = k; parent = p }) ≡ true) where
+  others_stay : (k : ℕ) (ps : List ℕ) → k ≢ q → filter test (links_to k ps) ≡ links_to k ps
+  others_stay k [] other = refl
+  others_stay k (x ∷ ps) other = rw (passes k x other, others_stay k ps other) refl
+
+  later_stay : (rows : List Row) (k : ℕ) → q < k → filter test (links_from k rows) ≡ links_from k rows
+  later_stay [] k before = refl
+  later_stay (r ∷ rows) k before =
+      filter-append test (links_to k r.parents.items) (links_from (k + 1) rows)
+      ∙ rw (others_stay k r.parents.items (omega arith), later_stay rows (k + 1) (omega arith)) refl
+
+  links_from-filtered : (rows : List Row) (k i : ℕ) (row d : Row) → q ≡ k + i → i < length rows → filter test (links_to q (get_or rows i d).parents.items) ≡ links_to q row.parents.items → links_from k (set rows i row) ≡ filter test (links_from k rows)
+  links_from-filtered [] k i row d at inside fewer = absurd (omega arith)
+  links_from-filtered (r ∷ rows) k zero row d at inside fewer =
+      let here : k ≡ q = omega arith in
+      sym (filter-append test (links_to k r.parents.items) (links_from (k + 1) rows)
+      ∙ rw (later_stay rows (k + 1) (omega arith), here, fewer) refl)
+  links_from-filtered (r ∷ rows) k (suc i) row d at inside fewer =
+      sym (filter-append test (links_to k r.parents.items) (links_from (k + 1) rows)
+      ∙ rw (others_stay k r.parents.items (omega arith), links_from-filtered rows (k + 1) i row d (omega arith) (omega arith) fewer) refl)
 
 own_links_go : (k : ℕ) (ps : List ℕ) → filter (λ (l : Link). not (l.class == k)) (links_to k ps) ≡ []
 own_links_go k [] = refl
 own_links_go k (x ∷ ps) = rw (eq-eqb k k refl) (own_links_go k ps)
 
-drop_links-none : (rows : List Row) (k q : ℕ) → q < k → filter (λ (l : Link). not (l.class == q)) (links_from k rows) ≡ links_from k rows
-drop_links-none [] k q before = refl
-drop_links-none (r ∷ rows) k q before =
-    filter-append (λ (l : Link). not (l.class == q)) (links_to k r.parents.items) (links_from (k + 1) rows)
-    ∙ rw (other_classes_links-to k q r.parents.items (omega arith), drop_links-none rows (k + 1) q (omega arith)) refl
-
 -- a row whose parents are gone
 pub links_from-dropped : (rows : List Row) (k i q : ℕ) (row : Row) → q ≡ k + i → i < length rows → row.parents.items ≡ [] → links_from k (set rows i row) ≡ filter (λ (l : Link). not (l.class == q)) (links_from k rows)
-links_from-dropped [] k i q row at inside none = absurd (omega arith)
-links_from-dropped (r ∷ rows) k zero q row at inside none =
-    let here : q ≡ k = omega arith in
-    sym (filter-append (λ (l : Link). not (l.class == q)) (links_to k r.parents.items) (links_from (k + 1) rows)
-    ∙ rw (here, own_links_go k r.parents.items, drop_links-none rows (k + 1) k (omega arith), none) refl)
-links_from-dropped (r ∷ rows) k (suc i) q row at inside none =
-    sym (filter-append (λ (l : Link). not (l.class == q)) (links_to k r.parents.items) (links_from (k + 1) rows)
-    ∙ rw (other_classes_links-to k q r.parents.items (omega arith), links_from-dropped rows (k + 1) i q row (omega arith) (omega arith) none) refl)
-
--- the links but the one
-other_class_keeps : (k q p : ℕ) (ps : List ℕ) → k ≢ q → filter (λ l. not (is_link q p l)) (links_to k ps) ≡ links_to k ps
-other_class_keeps k q p [] other = refl
-other_class_keeps k q p (x ∷ ps) other = rw (ne_eqb k q other) (ap (λ ls. record { class = k; parent = x } ∷ ls) (other_class_keeps k q p ps other))
+links_from-dropped rows k i q row at inside none =
+    links_from-filtered (λ (l : Link). not (l.class == q)) q (λ k p other. ap not (ne_eqb k q other)) rows k i row row at inside
+    (own_links_go q (get_or rows i row).parents.items ∙ rw none refl)
 
 own_link_goes : (k p : ℕ) (ps : List ℕ) → filter (λ l. not (is_link k p l)) (links_to k ps) ≡ links_to k (filter (λ x. not (x == p)) ps)
 own_link_goes k p [] = refl
 own_link_goes k p (x ∷ ps) = let rest = own_link_goes k p ps in grind (arith, nat_tests)
 
-unlink-none : (rows : List Row) (k q p : ℕ) → q < k → filter (λ l. not (is_link q p l)) (links_from k rows) ≡ links_from k rows
-unlink-none [] k q p before = refl
-unlink-none (r ∷ rows) k q p before =
-    filter-append (λ l. not (is_link q p l)) (links_to k r.parents.items) (links_from (k + 1) rows)
-    ∙ rw (other_class_keeps k q p r.parents.items (omega arith), unlink-none rows (k + 1) q p (omega arith)) refl
-
 -- a row with one parent less
 pub links_from-removed : (rows : List Row) (k i q p : ℕ) (row d : Row) → q ≡ k + i → i < length rows → row.parents.items ≡ filter (λ x. not (x == p)) (get_or rows i d).parents.items → links_from k (set rows i row) ≡ filter (λ l. not (is_link q p l)) (links_from k rows)
-links_from-removed [] k i q p row d at inside fewer = absurd (omega arith)
-links_from-removed (r ∷ rows) k zero q p row d at inside fewer =
-    let here : q ≡ k = omega arith in
-    sym (filter-append (λ l. not (is_link q p l)) (links_to k r.parents.items) (links_from (k + 1) rows)
-    ∙ rw (here, own_link_goes k p r.parents.items, unlink-none rows (k + 1) k p (omega arith), fewer) refl)
-links_from-removed (r ∷ rows) k (suc i) q p row d at inside fewer =
-    sym (filter-append (λ l. not (is_link q p l)) (links_to k r.parents.items) (links_from (k + 1) rows)
-    ∙ rw (other_class_keeps k q p r.parents.items (omega arith), links_from-removed rows (k + 1) i q p row d (omega arith) (omega arith) fewer) refl)
+links_from-removed rows k i q p row d at inside fewer =
+    links_from-filtered (λ l. not (is_link q p l)) q (λ k x other. rw (ne_eqb k q other) refl) rows k i row d at inside
+    (own_link_goes q p (get_or rows i d).parents.items ∙ rw fewer refl)

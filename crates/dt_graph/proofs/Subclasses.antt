@@ -1,16 +1,16 @@
 -- The lowest class that has a given one as a parent: the first that has it among the classes below it.
-use Rattle.std.proofs.Common.{◌≡◌, ◌==◌, ℕ, ◌≤◌, Bool, false, ◌&&◌, IsTrue, List, [], ◌∷◌, Option, Some, None, find, refl, sym, ap, subst, ◌∙◌, ⊎_elim, eqb-true, eq-eqb, arith}
-use Rattle.std.proofs.lemmas.Bool.{or_cases, or_left, and_parts, and_from, and_right, false≢true, cases_Bool, cond-true, cond-false}
+use Rattle.std.proofs.Common.{◌≡◌, ◌==◌, ℕ, ◌≤◌, Bool, false, ◌&&◌, ◌||◌, IsTrue, List, [], ◌∷◌, Option, Some, None, find, refl, sym, ap, ◌∙◌, eqb-true, eq-eqb, arith}
+use Rattle.std.proofs.lemmas.Bool.{or_left, and_parts, and_from, and_right, false≢true}
 use Rattle.std.proofs.lemmas.Bool.Decides.{nat_tests}
 use Rattle.std.proofs.lemmas.List.Elements.{All-weaker}
-use Rattle.std.specs.Option.{option_map}
-use Rattle.dt_graph.specs.Graph.{Link, has_number, is_link, has_link, is_link_before, AscendingLinks}
+use Rattle.dt_graph.specs.Graph.{Link, has_number, has_link, is_link_before, AscendingLinks}
 use Rattle.dt_graph.specs.Lawful.{AscendingNumbers}
 use Rattle.dt_graph.specs.GraphChange.{lowest_subclass}
 use Rattle.dt_graph.proofs.LinkLists.{each_link}
-use Rattle.dt_graph.proofs.Ascending.{LinkBelowAll, link_below_rest, links_tail, first_is_lowest}
-use Rattle.dt_graph.proofs.AscendingSets.{same_truth, ascending_tail}
-use Rattle.dt_graph.proofs.Members.{has_first, has_later, is_later}
+use Rattle.dt_graph.proofs.ListMembers.{by_cases}
+use Rattle.dt_graph.proofs.Ascending.{LinkBelowAll, link_below_rest, links_tail, first_is_least}
+use Rattle.dt_graph.proofs.AscendingSets.{ascending_tail}
+use Rattle.dt_graph.proofs.Members.{has_first}
 
 -- the lowest number that passes the test
 abbrev pub IsLowest : (ℕ → Bool) → Option ℕ → Type 0
@@ -33,64 +33,38 @@ IsLowest-same test other same (Some m) known = (sym (same m) ∙ known.0, λ n p
 
 lowest_number : (test : ℕ → Bool) (numbers : List ℕ) → AscendingNumbers numbers → IsLowest (λ n. has_number numbers n && test n) (find test numbers)
 lowest_number test [] ascending = λ n. refl
-lowest_number test (x ∷ numbers) ascending = ⊎_elim
-    (λ passes.
-    let P : Option ℕ → Type 0 = IsLowest (λ n. has_number (x ∷ numbers) n && test n) in
-    subst P (sym (cond-true (test x) (Some x) (find test numbers) passes)) (
+lowest_number test (x ∷ numbers) ascending = by_cases (test x)
+    (λ passes. rw passes (
       and_from (has_number (x ∷ numbers) x) (test x) (has_first x numbers) passes,
-      λ n both. ⊎_elim
-          (λ here. let same = eqb-true x n here in omega arith)
-          (λ later. let above = first_is_lowest x numbers ascending n later in omega arith)
-          (or_cases (x == n) (has_number numbers n) (and_parts (has_number (x ∷ numbers) n) (test n) both).0),
+      λ n both. first_is_least x numbers ascending n (and_parts (has_number (x ∷ numbers) n) (test n) both).0,
     ))
-    (λ fails.
-    let P : Option ℕ → Type 0 = IsLowest (λ n. has_number (x ∷ numbers) n && test n) in
-    subst P (sym (cond-false (test x) (Some x) (find test numbers) fails))
-    (IsLowest-same (λ n. has_number numbers n && test n) (λ n. has_number (x ∷ numbers) n && test n) (λ n. same_truth (has_number numbers n && test n) (has_number (x ∷ numbers) n && test n)
-    (λ both. let parts = and_parts (has_number numbers n) (test n) both in and_from (has_number (x ∷ numbers) n) (test n) (has_later x numbers n parts.0) parts.1)
-    (λ both.
-    let parts = and_parts (has_number (x ∷ numbers) n) (test n) both in
-    and_from (has_number numbers n) (test n) (is_later x numbers n parts.0 (λ at. false≢true (sym fails ∙ (let Q : ℕ → Type 0 = λ m. IsTrue (test m) in subst Q (sym at) parts.1)))) parts.1))
+    (λ fails. rw fails (IsLowest-same (λ n. has_number numbers n && test n) (λ n. has_number (x ∷ numbers) n && test n)
+    (λ n. let own : IsTrue (x == n) → test n ≡ false = λ here. ap test (sym (eqb-true x n here)) ∙ fails in grind arith)
     (find test numbers) (lowest_number test numbers (ascending_tail x numbers ascending))))
-    (cases_Bool (test x))
 
 -- ---- the class of the first link to a parent
-
-not_lower : (l m : Link) → IsTrue (is_link_before l m) → l.class ≤ m.class
-not_lower l m before = grind (arith, nat_tests)
 
 -- the links after a link are of its class or of a higher one
 link_after : (l : Link) (links : List Link) → LinkBelowAll l links → (a b : ℕ) → IsTrue (has_link links a b) → l.class ≤ a
 link_after l links after a b linked =
-    each_link (λ a b. l.class ≤ a) links
-    (All-weaker (λ m. IsTrue (is_link_before l m)) (λ m. l.class ≤ m.class) (λ m before. not_lower l m before) links after) a b linked
+    each_link (λ a b. l.class ≤ a) links (All-weaker (λ m. IsTrue (is_link_before l m)) (λ m. l.class ≤ m.class)
+    (λ m before. grind (arith, nat_tests)) links after) a b linked
 
 pub lowest_linked : (links : List Link) (class : ℕ) → AscendingLinks links → IsLowest (λ n. has_link links n class) (lowest_subclass links class)
 lowest_linked [] class ascending = λ n. refl
-lowest_linked (l ∷ links) class ascending = ⊎_elim
-    (λ here.
-    let P : Option Link → Type 0 = λ found. IsLowest (λ n. has_link (l ∷ links) n class) (option_map (λ (link : Link). link.class) found) in
-    subst P (sym (cond-true (l.parent == class) (Some l) (find (λ (link : Link). link.parent == class) links) here)) (
-      or_left (is_link l.class class l) (has_link links l.class class) (and_from (l.class == l.class) (l.parent == class) (eq-eqb l.class l.class refl) here),
-      λ n linked. ⊎_elim
-          (λ own. let same = eqb-true l.class n (and_parts (l.class == n) (l.parent == class) own).0 in omega arith)
-          (λ later. link_after l links (link_below_rest l links ascending) n class later)
-          (or_cases (is_link n class l) (has_link links n class) linked),
+lowest_linked (l ∷ links) class ascending = by_cases (l.parent == class)
+    (λ here. rw here (
+      or_left _ _ (and_from _ _ (eq-eqb l.class l.class refl) refl),
+      λ n linked. let later = link_after l links (link_below_rest l links ascending) n class in grind (arith, nat_tests),
     ))
-    (λ other.
-    let P : Option Link → Type 0 = λ found. IsLowest (λ n. has_link (l ∷ links) n class) (option_map (λ (link : Link). link.class) found) in
-    subst P (sym (cond-false (l.parent == class) (Some l) (find (λ (link : Link). link.parent == class) links) other))
-    (IsLowest-same (λ n. has_link links n class) (λ n. has_link (l ∷ links) n class)
-    (λ n. rw (and_right (l.class == n) (l.parent == class) other) refl)
+    (λ other. rw other (IsLowest-same (λ n. has_link links n class) (λ n. (l.class == n && false) || has_link links n class)
+    (λ n. rw (and_right (l.class == n) false refl) refl)
     (lowest_subclass links class) (lowest_linked links class (links_tail l links ascending))))
-    (cases_Bool (l.parent == class))
 
 -- found among numbers that have all classes with the parent
 pub lowest_found : (links : List Link) (class : ℕ) (numbers : List ℕ) → AscendingLinks links → AscendingNumbers numbers → ((n : ℕ) → IsTrue (has_link links n class) → IsTrue (has_number numbers n)) → find (λ n. has_link links n class) numbers ≡ lowest_subclass links class
 lowest_found links class numbers ascending ascending' inside =
     one_lowest (λ n. has_link links n class) (find (λ n. has_link links n class) numbers) (lowest_subclass links class)
-    (IsLowest-same (λ n. has_number numbers n && has_link links n class) (λ n. has_link links n class) (λ n. same_truth (has_number numbers n && has_link links n class) (has_link links n class)
-    (λ both. (and_parts (has_number numbers n) (has_link links n class) both).1)
-    (λ linked. and_from (has_number numbers n) (has_link links n class) (inside n linked) linked))
+    (IsLowest-same (λ n. has_number numbers n && has_link links n class) (λ n. has_link links n class) (λ n. let there = inside n in grind arith)
     (find (λ n. has_link links n class) numbers) (lowest_number (λ n. has_link links n class) numbers ascending'))
     (lowest_linked links class ascending)

@@ -1,9 +1,9 @@
 -- Each change of a lawful graph is undone by one change, which isn't refused.
-use Rattle.std.proofs.Common.{◌≡◌, ◌==◌, ℕ, ◌<◌, ◌≤◌, Bool, not, true, false, cond, ◌&&◌, IsTrue, nat_lt, List, [], ◌∷◌, length, filter, find, Option, None, Some, is_some, refl, sym, ap, subst, ◌∙◌, eqb, eq-eqb, arith}
-use Rattle.std.proofs.lemmas.Bool.{and_from, or_left, or_right, eqb-true, false≢true}
+use Rattle.std.proofs.Common.{◌≡◌, ◌==◌, ℕ, ◌<◌, ◌≤◌, not, true, false, cond, IsTrue, nat_lt, List, [], ◌∷◌, length, filter, find, Option, None, Some, is_some, refl, sym, ap, subst, ◌∙◌, eqb, eq-eqb, arith}
+use Rattle.std.proofs.lemmas.Bool.{and_right, or_left, or_right, eqb-true, false≢true}
 use Rattle.std.proofs.lemmas.Bool.Decides.{nat_tests}
-use Rattle.std.proofs.lemmas.List.Elements.{All-head, All-tail, All-filter}
-use Rattle.dt_graph.specs.InOrder.{find_at, without}
+use Rattle.std.proofs.lemmas.List.Elements.{All-head, All-tail, All-filter, filter_agree}
+use Rattle.dt_graph.specs.InOrder.{find_at}
 use Rattle.dt_graph.specs.Graph.{Link, Graph, has_number, is_live, is_link, is_link_before, has_link, AscendingLinks, insert_number, insert_link, insert_links}
 use Rattle.dt_graph.specs.Lawful.{AscendingNumbers, LawfulGraph}
 use Rattle.dt_graph.specs.Parents.{parents_of}
@@ -13,10 +13,11 @@ use Rattle.dt_graph.specs.declared.limits.TheConstants.{CLASSES, PARENTS}
 use Rattle.dt_graph.proofs.InOrder.{is_some-find, no_some, found_key, remove_inserted, put_back_removed, inserted_first, Ascends-tail}
 use Rattle.dt_graph.proofs.Ascending.{number_order, order_of_links, first_is_lowest, LinkBelowAll, link_below_rest, links_tail}
 use Rattle.dt_graph.proofs.LinkLists.{each_number}
+use Rattle.dt_graph.proofs.ListMembers.{by_cases, filter-weaker}
 use Rattle.dt_graph.proofs.ParentLists.{parent_count_listed}
 use Rattle.dt_graph.proofs.ListsOfGraphs.{parents_ascend}
 use Rattle.dt_graph.proofs.LawfulChanges.{joins_live, no_parents, may_be_added, may_be_linked, add_keeps, drop_keeps, link_keeps, unlink_keeps}
-use Rattle.dt_graph.proofs.Effects.{live_after_add, live_after_drop, links_after_link, links_after_unlink, never_own}
+use Rattle.dt_graph.proofs.Effects.{live_after_add, live_after_drop, link_made, links_after_unlink, never_own}
 use Rattle.dt_graph.proofs.Needed.{add_refused, drop_refused, link_refused, unlink_refused}
 
 -- ---- changes touch one class
@@ -36,29 +37,24 @@ others_links class [] links = refl
 others_links class (p ∷ parents) links =
     others_links class parents (insert_link (record { class = class; parent = p }) links) ∙ others_link class p links
 
-filter_twice : {X : Type 0} (p : X → Bool) (xs : List X) → filter p (filter p xs) ≡ filter p xs
-filter_twice p [] = refl
-filter_twice p (x ∷ xs) = let r = filter_twice p xs in grind arith
-
 others_unlinked : (class parent : ℕ) (links : List Link) → filter (λ (l : Link). not (eqb l.class class)) (filter (λ l. not (is_link class parent l)) links) ≡ filter (λ (l : Link). not (eqb l.class class)) links
-others_unlinked class parent [] = refl
-others_unlinked class parent (l ∷ links) = let r = others_unlinked class parent links in grind arith
+others_unlinked class parent links =
+    filter-weaker (λ (l : Link). not (eqb l.class class)) (λ l. not (is_link class parent l)) links (λ l other. grind arith)
 
 add_touches : (g : Graph) (class : ℕ) (parents : List ℕ) → drop_effect (add_effect g class parents) class ≡ drop_effect g class
 add_touches g class parents = rw (others_numbers class g.classes, others_links class parents g.links) refl
 
 pub drop_touches : (g : Graph) (class : ℕ) → drop_effect (drop_effect g class) class ≡ drop_effect g class
 drop_touches g class =
-    rw (filter_twice (λ c. not (eqb c class)) g.classes, filter_twice (λ (l : Link). not (eqb l.class class)) g.links) refl
+    rw (
+      filter-weaker (λ c. not (eqb c class)) (λ c. not (eqb c class)) g.classes (λ c e. e),
+      filter-weaker (λ (l : Link). not (eqb l.class class)) (λ (l : Link). not (eqb l.class class)) g.links (λ l e. e),
+    ) refl
 
 pub unlink_touches : (g : Graph) (class parent : ℕ) → drop_effect (unlink_effect g class parent) class ≡ drop_effect g class
 unlink_touches g class parent = rw (others_unlinked class parent g.links) refl
 
 -- ---- a class comes back
-
-others_said : (class : ℕ) (numbers : List ℕ) → filter (λ c. not (eqb c class)) numbers ≡ without (λ n. n) (λ a b. eqb a b) class numbers
-others_said class [] = refl
-others_said class (n ∷ numbers) = let r = others_said class numbers in grind (arith, nat_tests)
 
 found_itself : (class : ℕ) (numbers : List ℕ) → IsTrue (has_number numbers class) → find_at (λ n. n) (λ a b. eqb a b) class numbers ≡ Some class
 found_itself class [] h = cc
@@ -67,7 +63,7 @@ found_itself class (n ∷ numbers) h = let r = found_itself class numbers in gri
 number_back : (class : ℕ) (numbers : List ℕ) → AscendingNumbers numbers → IsTrue (has_number numbers class)
     → insert_number class (filter (λ c. not (eqb c class)) numbers) ≡ numbers
 number_back class numbers u h =
-    ap (insert_number class) (others_said class numbers)
+    ap (insert_number class) (filter_agree (λ c. not (eqb c class)) (λ c. not (eqb class c)) (λ c. grind (arith, nat_tests)) numbers)
     ∙ put_back_removed (λ n. n) nat_lt (λ a b. eqb a b) number_order class class numbers u (found_itself class numbers h)
 
 number_gone : (class : ℕ) (numbers : List ℕ) → has_number numbers class ≡ false → filter (λ c. not (eqb c class)) numbers ≡ numbers
@@ -91,10 +87,9 @@ parents_behind : (l : Link) (class : ℕ) (links : List Link) → LinkBelowAll l
 parents_behind l class [] h = tt
 parents_behind l class (m ∷ links) h =
     let rest = parents_behind l class links (All-tail (λ k. IsTrue (is_link_before l k)) m links h) in
-    elim (eqb m.class class) as (λ t. eqb m.class class ≡ t → BelowParents l class (cond t (m.parent ∷ parents_of links class) (parents_of links class))) [
-      | true ↦ λ e. (let b = All-head (λ k. IsTrue (is_link_before l k)) m links h in let same = eqb-true m.class class e in grind (arith, nat_tests), rest)
-      | false ↦ λ e. rest
-    ] refl
+    by_cases (eqb m.class class)
+    (λ e. rw e (let b = All-head (λ k. IsTrue (is_link_before l k)) m links h in let same = eqb-true m.class class e in grind (arith, nat_tests), rest))
+    (λ e. rw e rest)
 
 links_back : (class : ℕ) (links : List Link) → AscendingLinks links
     → insert_links class (parents_of links class) (filter (λ (l : Link). not (eqb l.class class)) links) ≡ links
@@ -161,17 +156,12 @@ drop_undone g class lawful none =
 
 -- ---- a link
 
-never : (t : Bool) → (t && false) ≡ false
-never true = refl
-never false = refl
-
 abbrev to : ℕ → ℕ → Link
 to class parent = record { class = class; parent = parent }
 
 pub link_undone : LinkingIsUndone
 link_undone g class parent lawful none =
-    let linked = links_after_link g class parent class parent
-    ∙ or_left ((class == class) && (parent == parent)) (has_link g.links class parent) (and_from (class == class) (parent == parent) (eq-eqb class class refl) (eq-eqb parent parent refl)) in
+    let linked = link_made g class parent in
     let absent = no_some _ (is_some-find (is_link class parent) g.links ∙ (may_be_linked g class parent none).new) in
     let gone = remove_inserted (λ l. l) is_link_before (λ a b. is_link a.class a.parent b) order_of_links (to class parent) g.links absent in (
       (unlink_refused (link_effect g class parent) class parent (link_keeps g class parent lawful none)).1 linked,
@@ -187,7 +177,7 @@ unlink_undone g class parent lawful none =
 
     gone : has_link new.links class parent ≡ false
     gone = links_after_unlink g class parent class parent
-        ∙ rw (eq-eqb class class refl, eq-eqb parent parent refl) (never (has_link g.links class parent))
+        ∙ rw (eq-eqb class class refl, eq-eqb parent parent refl) (and_right (has_link g.links class parent) false refl)
 
     again : (found : Option Link) → find (is_link class parent) g.links ≡ found → is_some found ≡ true
         → insert_link (to class parent) new.links ≡ g.links

@@ -1,5 +1,5 @@
 -- Below as a relation and below as a test agree: the test holds of a class and itself, and along a link.
-use Rattle.std.proofs.Common.{◌≡◌, ◌==◌, ℕ, Bool, ◌&&◌, IsTrue, ◌↔◌, List, [], ◌∷◌, ◌++◌, ⊎_elim, refl, sym, subst, ◌∙◌, eqb-true, eq-eqb}
+use Rattle.std.proofs.Common.{◌≡◌, ◌==◌, ℕ, Bool, ◌&&◌, IsTrue, ◌↔◌, List, [], ◌∷◌, ◌++◌, ⊎_elim, refl, sym, ap, subst, ◌∙◌, eqb-true, eq-eqb, arith}
 use Rattle.std.proofs.lemmas.Bool.{or_cases, or_left, or_right, and_parts, and_from, false≢true}
 use Rattle.dt_graph.specs.Graph.{Link, is_link, has_link}
 use Rattle.dt_graph.specs.Below.{Leads, IsBelow, is_below}
@@ -51,25 +51,12 @@ is_below_self (link ∷ links) a = or_left _ _ (is_below_self links a)
 pub is_below_step : (links : List Link) (a b c : ℕ) → IsTrue (has_link links a b) → IsTrue (is_below links b c) → IsTrue (is_below links a c)
 is_below_step [] a b c linked test = absurd (false≢true linked)
 is_below_step (link ∷ links) a b c linked test =
-    let onward : IsTrue (is_below links a link.class) → IsTrue (is_below links link.parent c) → IsTrue (is_below (link ∷ links) a c) = λ first second. or_right (is_below links a c) _ (and_from _ _ first second) in
-    ⊎_elim
-    (λ here.
-    let ends = and_parts (link.class == a) (link.parent == b) here in
-    let at_class : link.class ≡ a = eqb-true link.class a ends.0 in
-    let at_parent : link.parent ≡ b = eqb-true link.parent b ends.1 in
-    let start : IsTrue (is_below links a link.class) = (let P : ℕ → Type 0 = λ n. IsTrue (is_below links a n) in subst P (sym at_class) (is_below_self links a)) in
-    let P : ℕ → Type 0 = λ n. IsTrue (is_below links n c) in
-    ⊎_elim
-    (λ direct. onward start (subst P (sym at_parent) direct))
-    (λ through. onward start (and_parts (is_below links b link.class) (is_below links link.parent c) through).1)
-    (or_cases (is_below links b c) (is_below links b link.class && is_below links link.parent c) test))
-    (λ later. ⊎_elim
-    (λ direct. or_left _ _ (is_below_step links a b c later direct))
-    (λ through.
-    let both = and_parts (is_below links b link.class) (is_below links link.parent c) through in
-    onward (is_below_step links a b link.class later both.0) both.1)
-    (or_cases (is_below links b c) (is_below links b link.class && is_below links link.parent c) test))
-    (or_cases (is_link a b link) (has_link links a b) linked)
+    let own : IsTrue (is_link a b link) → IsTrue (is_below links a link.class) = λ here.
+    subst (λ n. IsTrue (is_below links a n)) (sym (eqb-true link.class a (and_parts (link.class == a) (link.parent == b) here).0)) (is_below_self links a) in
+    let on : IsTrue (is_link a b link) → is_below links link.parent c ≡ is_below links b c = λ here.
+    ap (λ n. is_below links n c) (eqb-true link.parent b (and_parts (link.class == a) (link.parent == b) here).1) in
+    let direct = is_below_step links a b c in
+    let through = is_below_step links a b link.class in grind arith
 
 -- where there are steps, the test holds
 pub is_below-from_steps : (links : List Link) (steps : List ℕ) (a b : ℕ) → Leads links a steps b → IsTrue (is_below links a b)

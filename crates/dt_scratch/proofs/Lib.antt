@@ -1,15 +1,12 @@
 pub mod AnswerAmong
-pub mod Best
 pub mod Cells
 pub mod LiveNumbers
 pub mod Locality
 pub mod Lowest
 pub mod MoreSpecific
 pub mod OtherCells
-pub mod Replies
 pub mod SameAnswers
 pub mod StrictOrder
 pub mod TopClasses
-pub mod Unmet
 pub mod Parts
 pub mod QueryNumbers

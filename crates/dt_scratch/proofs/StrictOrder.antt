@@ -1,5 +1,5 @@
 -- Lists under a strict order: the elements that have none less than them.
-use Rattle.std.proofs.Common.{◌≡◌, Bool, true, false, not, cond, List, [], ◌∷◌, ◌++◌, length, append-nil, ◌⊎◌, inl, inr, ⊎_elim, refl, sym, ap, ◌∙◌, subst, arith}
+use Rattle.std.proofs.Common.{◌≡◌, Bool, true, false, not, List, [], ◌∷◌, ◌++◌, length, append-nil, ◌⊎◌, inl, inr, ⊎_elim, refl, sym, ap, ◌∙◌, subst, arith}
 use Rattle.std.specs.List.{filter, list_any}
 use Rattle.std.proofs.lemmas.Bool.{both_ways, or_from, false_from_ne_true, true_from_ne_false, not_from_false}
 use Rattle.std.proofs.lemmas.List.Elements.{filter-append}
@@ -13,78 +13,80 @@ none_less less xs x = not (list_any (λ other. less other x) xs)
 abbrev pub least : {T : Type 0} → (T → T → Bool) → List T → List T
 least less xs = filter (none_less less xs) xs
 
-module _ {T : Type 0} (less : T → T → Bool) (irreflexive : (x : T) → less x x ≡ false)
-    (transitive : (x y z : T) → less x y ≡ true → less y z ≡ true → less x z ≡ true) where
-  not_back : (x y : T) → less x y ≡ true → less y x ≡ false
-  not_back x y e =
-      false_from_ne_true (less y x) (λ f. both_ways (less x x) (irreflexive x) (transitive x y x e f))
+pub record IsStrict {T : Type 0} (less : T → T → Bool) : Type 0 where
+  pub irreflexive : (x : T) → less x x ≡ false
+  pub transitive : (x y z : T) → less x y ≡ true → less y z ≡ true → less x z ≡ true
+
+-- of a list with one element each is that one
+one_alone : {T : Type 0} (xs : List T) → length xs ≡ 1 → (x : T) → In xs x → xs ≡ x ∷ []
+one_alone [] n x i = absurd i
+one_alone (y ∷ []) n x (inl q) = ap (λ v. v ∷ []) (sym q)
+one_alone (y ∷ []) n x (inr i) = absurd i
+one_alone (y ∷ z ∷ xs) n x i = absurd (omega (arith, n))
+
+module _ {T : Type 0} (less : T → T → Bool) (strict : IsStrict less) where
+  pub not_back : (x y : T) → less x y ≡ true → less y x ≡ false
+  not_back x y e = let back = strict.transitive x y x e in let own = strict.irreflexive x in grind arith
 
   -- from an element one comes down to one that none of the list is less than
   pub record Descends (zs : List T) (m r : T) : Type 0 where
     pub down : (r ≡ m) ⊎ (less r m ≡ true)
-    pub among : (r ≡ m) ⊎ In zs r
+    pub among : In (m ∷ zs) r
     pub none : list_any (λ z. less z r) zs ≡ false
-
-  step_down : (z : T) (zs : List T) (m r : T) → less z m ≡ true → Descends zs z r → Descends (z ∷ zs) m r
-  step_down z zs m r e d = record {
-    down = inr (⊎_elim (λ q. subst (λ x. less x m ≡ true) (sym q) e) (λ l. transitive r z m l e) d.down);
-    among = inr d.among;
-    none = or_from (less z r) (list_any (λ z. less z r) zs)
-        (⊎_elim (λ q. subst (λ x. less z x ≡ false) (sym q) (irreflexive z)) (λ l. not_back r z l) d.down) d.none;
-  }
-
-  stay : (z : T) (zs : List T) (m r : T) → less z m ≡ false → Descends zs m r → Descends (z ∷ zs) m r
-  stay z zs m r e d = record {
-    down = d.down;
-    among = ⊎_elim (λ q. inl q) (λ i. inr (inr i)) d.among;
-    none = or_from (less z r) (list_any (λ z. less z r) zs)
-        (⊎_elim (λ q. subst (λ x. less z x ≡ false) (sym q) e)
-        (λ l. false_from_ne_true (less z r) (λ f. both_ways (less z m) e (transitive z r m f l))) d.down)
-        d.none;
-  }
 
   pub descend : (zs : List T) (m : T) → (r : T) × Descends zs m r
   descend [] m = (m, record { down = inl refl; among = inl refl; none = refl })
-  descend (z ∷ zs) m =
-      by_cases (less z m)
-      (λ e. let d = descend zs z in (d.0, step_down z zs m d.0 e d.1))
-      (λ e. let d = descend zs m in (d.0, stay z zs m d.0 e d.1))
+  descend (z ∷ zs) m = by_cases (less z m)
+      (λ e. let d = descend zs z in (
+        d.0,
+        record {
+          down = inr (⊎_elim (λ q. rw q e) (λ l. strict.transitive d.0 z m l e) d.1.down);
+          among = inr d.1.among;
+          none = or_from _ _ (⊎_elim (λ q. rw q (strict.irreflexive z)) (λ l. not_back d.0 z l) d.1.down) d.1.none;
+        },
+      ))
+      (λ e. let d = descend zs m in (
+        d.0,
+        record {
+          down = d.1.down;
+          among = ⊎_elim (λ q. inl q) (λ i. inr (inr i)) d.1.among;
+          none = or_from _ _ (⊎_elim (λ q. rw q e)
+              (λ l. let t = strict.transitive z d.0 m in let back : less z d.0 ≡ false = grind arith in back) d.1.down) d.1.none;
+        },
+      ))
 
-  -- of a list with one element two are equal
-  only_one : (ys : List T) → length ys ≡ 1 → (x y : T) → In ys x → In ys y → x ≡ y
-  only_one [] n x y i j = absurd i
-  only_one (z ∷ []) n x y (inl p) (inl q) = p ∙ sym q
-  only_one (z ∷ []) n x y (inl p) (inr j) = absurd j
-  only_one (z ∷ []) n x y (inr i) j = absurd i
-  only_one (z ∷ z' ∷ ys) n x y i j = absurd (omega (arith, n))
+  -- where none is left over, there was none
+  pub none_least : (xs : List T) → least less xs ≡ [] → xs ≡ []
+  none_least [] e = refl
+  none_least (x ∷ xs) e =
+      let r = descend (x ∷ xs) x in
+      absurd (subst (λ ys. In ys r.0) e (In-filter (none_less less (x ∷ xs)) (x ∷ xs) r.0
+      (⊎_elim (λ q. inl q) (λ i. i) r.1.among) (ap not r.1.none)))
 
-  -- what is less than an element that is less than all others of a list is less than all of it
-  less_than_all : (xs : List T) (c d : T) → In xs c → length (filter (λ x. not (less c x)) xs) ≡ 1 → less d c ≡ true →
-      (x : T) → In xs x → not (less d x) ≡ false
-  less_than_all xs c d here one below x i = ap not (by_cases (less c x)
-      (λ l. transitive d c x below l)
-      (λ n.
-      let same = only_one (filter (λ y. not (less c y)) xs) one c x
-      (In-filter (λ y. not (less c y)) xs c here (ap not (irreflexive c)))
-      (In-filter (λ y. not (less c y)) xs x i (ap not n)) in
-      subst (λ y. less d y ≡ true) same below))
+  -- an element of a list, and the elements that it isn't less than
+  module _ (xs : List T) (c : T) (there : In xs c) where
+    -- where it is the only such, it is less than all others
+    others_lose : length (filter (λ x. not (less c x)) xs) ≡ 1 → (x : T) → In xs x → (x ≡ c) ⊎ (less c x ≡ true)
+    others_lose one x i = by_cases (less c x) (λ l. inr l)
+        (λ n. ⊎_elim (λ q. inl q) (λ f. absurd f) (subst (λ ys. In ys x)
+        (one_alone _ one c (In-filter (λ y. not (less c y)) xs c there (ap not (strict.irreflexive c))))
+        (In-filter (λ y. not (less c y)) xs x i (ap not n))))
 
-  -- so with it at the end it is less than all others
-  pub lower_is_alone : (xs : List T) (c d : T) → In xs c → length (filter (λ x. not (less c x)) xs) ≡ 1 →
-      less d c ≡ true → length (filter (λ x. not (less d x)) (xs ++ d ∷ [])) ≡ 1
-  lower_is_alone xs c d here one below =
-      ap length (filter-append (λ x. not (less d x)) xs (d ∷ [])
-      ∙ ap (λ ys. ys ++ filter (λ x. not (less d x)) (d ∷ []))
-      (filter_none_in (λ x. not (less d x)) xs (less_than_all xs c d here one below))
-      ∙ ap (λ b. cond (not b) (d ∷ []) []) (irreflexive d))
+    -- so what is less than it, and comes after them, is less than all others too
+    pub lower_is_alone : (d : T) → length (filter (λ x. not (less c x)) xs) ≡ 1 → less d c ≡ true →
+        length (filter (λ x. not (less d x)) (xs ++ d ∷ [])) ≡ 1
+    lower_is_alone d one below =
+        rw (
+          filter-append (λ x. not (less d x)) xs (d ∷ []),
+          filter_none_in (λ x. not (less d x)) xs (λ x i. ap not (⊎_elim (λ q. rw q below)
+              (λ l. strict.transitive d c x below l) (others_lose one x i))),
+          strict.irreflexive d,
+        ) refl
 
   -- and one that it is less than changes nothing
   pub stays_alone : (xs : List T) (c d : T) → length (filter (λ x. not (less c x)) xs) ≡ 1 → less c d ≡ true →
       length (filter (λ x. not (less c x)) (xs ++ d ∷ [])) ≡ 1
-  stays_alone xs c d one below =
-      ap length (filter-append (λ x. not (less c x)) xs (d ∷ [])
-      ∙ ap (λ b. filter (λ x. not (less c x)) xs ++ cond (not b) (d ∷ []) []) below
-      ∙ append-nil (filter (λ x. not (less c x)) xs)) ∙ one
+  stays_alone xs c d one below = rw (filter-append (λ x. not (less c x)) xs (d ∷ []), below, append-nil) one
 
   -- an element that has none less than it, and the elements that it isn't less than
   module _ (xs : List T) (c : T) (is_least : In (least less xs) c) where
@@ -94,36 +96,23 @@ module _ {T : Type 0} (less : T → T → Bool) (irreflexive : (x : T) → less 
     beaten : (x : T) → less c x ≡ true → none_less less xs x ≡ false
     beaten x e = ap not (true_from_ne_false _ (λ n. both_ways (less c x) (none_at (λ z. less z x) xs c here.0 n) e))
 
-    unbeaten : (x : T) → none_less less xs x ≡ true → not (less c x) ≡ true
-    unbeaten x e =
-        not_from_false _ (false_from_ne_true _ (λ f. both_ways (none_less less xs x) (beaten x f) e))
-
-    one_left : (ys : List T) → length ys ≡ 1 → In (filter (none_less less xs) ys) c →
-        filter (none_less less xs) ys ≡ c ∷ []
-    one_left [] n i = absurd i
-    one_left (y ∷ []) n i =
-        let h = In-from_filter (none_less less xs) (y ∷ []) c i in
-        ⊎_elim (λ q. subst (λ v. filter (none_less less xs) (v ∷ []) ≡ c ∷ []) q (rw here.1 refl)) (λ f. absurd f) h.0
-    one_left (y ∷ z ∷ ys) n i = absurd (omega arith)
-
     -- where it is less than all others, it is the only one that has none less than it
     pub alone : length (filter (λ x. not (less c x)) xs) ≡ 1 → least less xs ≡ c ∷ []
     alone n =
-        let e = filter-weaker (none_less less xs) (λ x. not (less c x)) xs unbeaten in
-        sym e ∙ one_left _ n (subst (λ ys. In ys c) (sym e) is_least)
-
-    pub least_is_c : least less xs ≡ c ∷ [] → (r : T) → In xs r → list_any (λ z. less z r) xs ≡ false → r ≡ c
-    least_is_c e r i n =
-        ⊎_elim (λ q. q) (λ f. absurd f) (subst (λ ys. In ys r) e (In-filter (none_less less xs) xs r i (ap not n)))
-
-    same_tests : least less xs ≡ c ∷ [] → (x : T) → In xs x → none_less less xs x ≡ not (less c x)
-    same_tests e x i = by_cases (less c x)
-        (λ f. rw f (beaten x f))
-        (λ f. rw f (let d = descend xs x in
-        let r_is_c : d.0 ≡ c = least_is_c e d.0 (⊎_elim (λ q. subst (In xs) (sym q) i) (λ j. j) d.1.among) d.1.none in
-        ⊎_elim (λ q. subst (λ v. none_less less xs v ≡ true) (sym r_is_c ∙ q) here.1)
-        (λ l. absurd (both_ways (less c x) f (subst (λ v. less v x ≡ true) r_is_c l))) d.1.down))
+        sym (filter-weaker (none_less less xs) (λ x. not (less c x)) xs (λ x e. not_from_false _ (false_from_ne_true _
+        (λ f. both_ways (none_less less xs x) (beaten x f) e))))
+        ∙ ap (filter (none_less less xs)) (one_alone _ n c (In-filter _ xs c here.0 (ap not (strict.irreflexive c))))
+        ∙ rw here.1 refl
 
     -- and the other way round
+    pub only_least : least less xs ≡ c ∷ [] → (x : T) → In xs x → (x ≡ c) ⊎ (less c x ≡ true)
+    only_least e x i =
+        let d = descend xs x in
+        let is_c : (d.0 ≡ c) ⊎ ⊥ = subst (λ ys. In ys d.0) e (In-filter (none_less less xs) xs d.0
+        (⊎_elim (λ q. subst (In xs) (sym q) i) (λ j. j) d.1.among) (ap not d.1.none)) in
+        ⊎_elim (λ r. ⊎_elim (λ q. inl (sym q ∙ r)) (λ l. inr (subst (λ v. less v x ≡ true) r l)) d.1.down)
+        (λ f. absurd f) is_c
+
     pub leads : least less xs ≡ c ∷ [] → length (filter (λ x. not (less c x)) xs) ≡ 1
-    leads e = ap length (sym (filter_agree_in (none_less less xs) (λ x. not (less c x)) xs (same_tests e)) ∙ e)
+    leads e = ap length (sym (filter_agree_in (none_less less xs) (λ x. not (less c x)) xs
+        (λ x i. ⊎_elim (λ q. rw q (here.1 ∙ sym (ap not (strict.irreflexive c)))) (λ l. rw l (beaten x l)) (only_least e x i))) ∙ e)

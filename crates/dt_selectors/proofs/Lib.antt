@@ -2,6 +2,5 @@ pub mod Arities
 pub mod LawfulChanges
 pub mod Rows
 pub mod Texts
-pub mod NameLists
 pub mod LiveLists
 pub mod Undoing

@@ -1,5 +1,5 @@
 -- Lemmas on rows as a list of selectors: a look-up, a write, and the laws.
-use Rattle.std.proofs.Common.{◌≡◌, ℕ, zero, suc, ◌+◌, ◌<◌, ◌≤◌, ◌==◌, true, false, nat_lt, List, [], ◌∷◌, length, set, replicate, get_or, Option, None, Some, slice_get, All, IfSome, refl, ap, ◌∙◌, arith, eq-eqb}
+use Rattle.std.proofs.Common.{◌≡◌, ℕ, zero, suc, ◌+◌, ◌<◌, ◌≤◌, List, [], ◌∷◌, length, set, replicate, get_or, Option, None, Some, slice_get, All, IfSome, refl, ap, ◌∙◌, arith, eq-eqb, lt-ltb}
 use Rattle.std.proofs.lemmas.Bool.Decides.{nat_tests}
 use Rattle.std.proofs.lemmas.List.Elements.{All-nil, All-cons, All-head, All-tail}
 use Rattle.std.proofs.lemmas.Option.{slice_get_read}
@@ -9,31 +9,18 @@ use Rattle.dt_selectors.specs.Lawful.{AscendingSelectors, LawfulSelector, Lawful
 use Rattle.dt_selectors.specs.Rows.{selectors_from, AritiesInRange}
 use Rattle.dt_selectors.specs.declared.limits.TheConstants.{SELECTORS}
 
--- what tests of two numbers tell
-eqb-no : (a b : ℕ) → (a < b) → (a == b) ≡ false
-eqb-no a b h = grind (arith, nat_tests)
-
-eqb-no_above : (a b : ℕ) → (b < a) → (a == b) ≡ false
-eqb-no_above a b h = grind (arith, nat_tests)
-
-ltb-yes : (a b : ℕ) → (a < b) → nat_lt a b ≡ true
-ltb-yes a b h = grind (arith, nat_tests)
-
-ltb-no : (a b : ℕ) → (b ≤ a) → nat_lt a b ≡ false
-ltb-no a b h = grind (arith, nat_tests)
-
 -- a selector below the rows isn't live in them
 arity-below : (q number : ℕ) (rows : List (Option ℕ)) → q < number → arity_in (selectors_from number rows) q ≡ None
 arity-below q number [] h = refl
 arity-below q number (None ∷ rows) h = arity-below q (number + 1) rows (omega arith)
-arity-below q number (Some a ∷ rows) h = rw (eqb-no_above number q h) (arity-below q (number + 1) rows (omega arith))
+arity-below q number (Some a ∷ rows) h = let rest = arity-below q (number + 1) rows (omega arith) in grind (arith, nat_tests)
 
 arity-at : (q number i : ℕ) (rows : List (Option ℕ)) → q ≡ number + i → arity_in (selectors_from number rows) q ≡ option_flatten (slice_get rows i)
 arity-at q number i [] e = refl
 arity-at q number zero (None ∷ rows) e = arity-below q (number + 1) rows (omega arith)
 arity-at q number zero (Some a ∷ rows) e = rw (eq-eqb number q (omega arith)) refl
 arity-at q number (suc i) (None ∷ rows) e = arity-at q (number + 1) i rows (omega arith)
-arity-at q number (suc i) (Some a ∷ rows) e = rw (eqb-no number q (omega arith)) (arity-at q (number + 1) i rows (omega arith))
+arity-at q number (suc i) (Some a ∷ rows) e = let rest = arity-at q (number + 1) i rows (omega arith) in grind (arith, nat_tests)
 
 -- a row is the arity of its selector
 pub arity-row : (rows : List (Option ℕ)) (i : ℕ) (row : Option ℕ) → i < length rows → row ≡ get_or rows i row → arity_in (selectors_from 0 rows) i ≡ row
@@ -45,7 +32,7 @@ insert-first : (q a number : ℕ) (rows : List (Option ℕ)) → q < number
     → insert_selector (record { number = q; arity = a }) (selectors_from number rows) ≡ record { number = q; arity = a } ∷ selectors_from number rows
 insert-first q a number [] h = refl
 insert-first q a number (None ∷ rows) h = insert-first q a (number + 1) rows (omega arith)
-insert-first q a number (Some b ∷ rows) h = rw (ltb-yes q number h) refl
+insert-first q a number (Some b ∷ rows) h = grind (arith, nat_tests)
 
 insert-at : (q a number i : ℕ) (rows : List (Option ℕ)) → q ≡ number + i → i < length rows
     → insert_selector (record { number = q; arity = a }) (selectors_from number rows) ≡ selectors_from number (set rows i (Some a))
@@ -54,12 +41,10 @@ insert-at q a number zero (None ∷ rows) e h =
     let same : q ≡ number = omega arith in
     insert-first q a (number + 1) rows (omega arith) ∙ ap (λ n. record { number = n; arity = a } ∷ selectors_from (number + 1) rows) same
 insert-at q a number zero (Some b ∷ rows) e h =
-    let same : q ≡ number = omega arith in
-    rw (ltb-no q number (omega arith), eq-eqb number q (omega arith)) (ap (λ n. record { number = n; arity = a } ∷ selectors_from (number + 1) rows) same)
+    let same : q ≡ number = omega arith in grind (arith, nat_tests)
 insert-at q a number (suc i) (None ∷ rows) e h = insert-at q a (number + 1) i rows (omega arith) (omega arith)
 insert-at q a number (suc i) (Some b ∷ rows) e h =
-    rw (ltb-no q number (omega arith), eqb-no number q (omega arith))
-    (ap (λ rest. record { number = number; arity = b } ∷ rest) (insert-at q a (number + 1) i rows (omega arith) (omega arith)))
+    let rest = insert-at q a (number + 1) i rows (omega arith) (omega arith) in grind (arith, nat_tests)
 
 pub insert-row : (rows : List (Option ℕ)) (i a : ℕ) → i < length rows
     → insert_selector (record { number = i; arity = a }) (selectors_from 0 rows) ≡ selectors_from 0 (set rows i (Some a))
@@ -70,7 +55,7 @@ without-below : (q number : ℕ) (rows : List (Option ℕ)) → q < number → w
 without-below q number [] h = refl
 without-below q number (None ∷ rows) h = without-below q (number + 1) rows (omega arith)
 without-below q number (Some a ∷ rows) h =
-    rw (eqb-no_above number q h) (ap (λ rest. record { number = number; arity = a } ∷ rest) (without-below q (number + 1) rows (omega arith)))
+    let rest = without-below q (number + 1) rows (omega arith) in grind (arith, nat_tests)
 
 without-at : (q number i : ℕ) (rows : List (Option ℕ)) → q ≡ number + i
     → without_selector (selectors_from number rows) q ≡ selectors_from number (set rows i None)
@@ -79,7 +64,7 @@ without-at q number zero (None ∷ rows) e = without-below q (number + 1) rows (
 without-at q number zero (Some a ∷ rows) e = rw (eq-eqb number q (omega arith)) (without-below q (number + 1) rows (omega arith))
 without-at q number (suc i) (None ∷ rows) e = without-at q (number + 1) i rows (omega arith)
 without-at q number (suc i) (Some a ∷ rows) e =
-    rw (eqb-no number q (omega arith)) (ap (λ rest. record { number = number; arity = a } ∷ rest) (without-at q (number + 1) i rows (omega arith)))
+    let rest = without-at q (number + 1) i rows (omega arith) in grind (arith, nat_tests)
 
 pub without-row : (rows : List (Option ℕ)) (i : ℕ) → without_selector (selectors_from 0 rows) i ≡ selectors_from 0 (set rows i None)
 without-row rows i = without-at i 0 i rows (omega arith)
@@ -94,7 +79,7 @@ ascend-cons : (s : Selector) (number : ℕ) (rows : List (Option ℕ)) → s.num
 ascend-cons s number [] h = tt
 ascend-cons s number (None ∷ rows) h = ascend-cons s (number + 1) rows (omega arith)
 ascend-cons s number (Some a ∷ rows) h =
-    (ltb-yes s.number number h, ascend-cons (record { number = number; arity = a }) (number + 1) rows (omega arith))
+    (lt-ltb s.number number h, ascend-cons (record { number = number; arity = a }) (number + 1) rows (omega arith))
 
 ascend : (number : ℕ) (rows : List (Option ℕ)) → AscendingSelectors (selectors_from number rows)
 ascend number [] = tt

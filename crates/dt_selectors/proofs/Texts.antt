@@ -9,6 +9,7 @@ use Rattle.std.proofs.lemmas.List.{map-append}
 use Rattle.indexmap.specs.IndexSet.{insert_key}
 use Rattle.dt_graph.proofs.SameLists.{same_list-self, same_list-pointwise, same_list_equal}
 use Rattle.dt_selectors.specs.Names.{Names, same_text, is_name, position_of, with_text, with_name}
+use Rattle.dt_selectors.specs.NameLists.{NumbersStayAlong}
 use Rattle.dt_selectors.specs.Lawful.{LawfulNames, HasDistinctTexts}
 use Rattle.dt_selectors.specs.Laws.{KnownNamesStay, NewNamesAreLast, NumbersStay}
 
@@ -42,9 +43,8 @@ module _ {K : Type 0} (text_of : K → List ℕ) (text : List ℕ) where
       ∙ ap (λ p. cond (same_text (text_of key) text) (Some 0) (one_later p)) (position_of-position keys)
 
   any-step : (b : Bool) (p : Option ℕ) → (b || is_some p) ≡ is_some (cond b (Some 0) (one_later p))
-  any-step true p = refl
-  any-step false None = refl
-  any-step false (Some i) = refl
+  any-step b None = grind arith
+  any-step b (Some i) = grind arith
 
   pub position_of-any : (keys : List K) → list_any (λ key. pointwise nat_eq text (text_of key)) keys ≡ is_some (position_of text (map text_of keys))
   position_of-any [] = refl
@@ -176,3 +176,9 @@ new_names_are_last names name new =
 
 pub known_names_stay : KnownNamesStay
 known_names_stay names name number known = with_name-known names name number known
+
+-- a name keeps its number whatever list of names is added
+pub numbers_stay_along : NumbersStayAlong
+numbers_stay_along names name [] number is = is
+numbers_stay_along names name (text ∷ texts) number is =
+    numbers_stay_along (with_name names text) name texts number (numbers_stay names name text number is)

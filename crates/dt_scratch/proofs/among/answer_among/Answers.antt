@@ -3,7 +3,7 @@ use Rattle.dt_definitions.specs.SelectorLists.{with_selector}
 use Rattle.dt_scratch.specs.declared.reply.Answer.TheVariants.{Method, NotUnderstood, Ambiguous}
 use Rattle.dt_scratch.specs.Among.{answer_among, count_unbeaten}
 use Rattle.dt_scratch.proofs.AnswerAmong.{answered, not_understood}
-use Rattle.dt_scratch.proofs.Replies.{answer_of_all}
+use Rattle.dt_scratch.proofs.Parts.{answer_of_all}
 use Rattle.dt_scratch.proofs.among.answer_among.Goals as goal
 use Rattle.dt_scratch.proofs.among.answer_among.Goals.{then-is_lowest, else-is_lowest}
 

@@ -1,4 +1,4 @@
-use Rattle.dt_selectors.proofs.NameLists.{numbers_stay_along}
+use Rattle.dt_selectors.proofs.Texts.{numbers_stay_along}
 use Rattle.dt_selectors.proofs.laws.lists_of_names_keep_numbers.Goals as goal
 
 pub returns : goal.returns

@@ -6,7 +6,7 @@ use Rattle.dt_definitions.specs.Naming.{itself}
 use Rattle.dt_definitions.specs.Program.{Definition, key_of, is_key_before, is_same_key}
 use Rattle.dt_definitions.specs.SelectorLists.{definitions_from}
 use Rattle.dt_definitions.proofs.DefinitionOrder.{key_order}
-use Rattle.dt_definitions.proofs.Lengths.{filter-absent}
+use Rattle.dt_definitions.proofs.Keys.{filter-absent}
 use Rattle.dt_definitions.proofs.Keys.{keys-found}
 use Rattle.dt_definitions.proofs.DefinitionChanges.{kept_remove, kept_same, none_shrinks, room_of_lists}
 use Rattle.dt_definitions.proofs.all_definitions.AllDefinitions.remove.Goals as goal

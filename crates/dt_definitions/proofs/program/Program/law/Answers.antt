@@ -1,6 +1,6 @@
 use Rattle.std.proofs.Common.{subst}
 use Rattle.dt_definitions.specs.Lawful.{Lawful}
-use Rattle.dt_definitions.proofs.DefinedOnce.{defined-once}
+use Rattle.dt_definitions.proofs.DefinitionOrder.{defined-once}
 use Rattle.dt_definitions.proofs.LawfulSteps.{definitions-fit}
 use Rattle.dt_definitions.proofs.program.Program.law.Goals as goal
 

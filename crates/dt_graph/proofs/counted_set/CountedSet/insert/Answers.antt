@@ -1,6 +1,6 @@
 use Rattle.std.proofs.Common.{◌+◌, ◌∙◌, length, sym, ap, arith}
 use Rattle.dt_graph.specs.declared.limits.TheConstants.{CLASSES}
-use Rattle.dt_graph.proofs.SetSizes.{size_placed, size_fits}
+use Rattle.dt_graph.proofs.Members.{size_placed, size_fits}
 use Rattle.dt_graph.proofs.counted_set.CountedSet.insert.Goals as goal
 
 pub overflow_add-self : goal.overflow_add-self

@@ -1,5 +1,5 @@
 use Rattle.std.proofs.Common.{◌∙◌, sym, arith}
-use Rattle.dt_graph.proofs.SetSizes.{size_removed}
+use Rattle.dt_graph.proofs.Members.{size_removed}
 use Rattle.dt_graph.proofs.counted_set.CountedSet.remove.Goals as goal
 
 pub invariant_of-self : goal.invariant_of-self
