@@ -49,27 +49,27 @@ module _ (links : List Link) where
       let parts = and_parts (is_below links class high) (begins links classes highs) h in
       and_from (is_below links class high) (are_below links classes highs) parts.0 (begins_below classes highs parts.1 (omega (arith, e)))
 
-takes_from : (program : Program) (selector k a : ℕ) → arity_of program selector ≡ Some a → a ≡ k → takes program selector k ≡ true
+pub takes_from : (program : Program) (selector k a : ℕ) → arity_of program selector ≡ Some a → a ≡ k → takes program selector k ≡ true
 takes_from program selector k a e same = rw e (eq-eqb a k same)
 
-takes_to : (program : Program) (selector k : ℕ) → takes program selector k ≡ true → arity_of program selector ≡ Some k
+pub takes_to : (program : Program) (selector k : ℕ) → takes program selector k ≡ true → arity_of program selector ≡ Some k
 takes_to program selector k t = by_option (arity_of program selector) refl
   where
     by_option : (o : Option ℕ) → arity_of program selector ≡ o → arity_of program selector ≡ Some k
     by_option None e = let f : false ≡ true = rw e at t in absurd (false≢true f)
     by_option (Some a) e = let f : (a == k) ≡ true = rw e at t in e ∙ ap (λ n. Some n) (eqb-true a k f)
 
-more_from : (program : Program) (selector k a : ℕ) → arity_of program selector ≡ Some a → k < a → takes_more program selector k ≡ true
+pub more_from : (program : Program) (selector k a : ℕ) → arity_of program selector ≡ Some a → k < a → takes_more program selector k ≡ true
 more_from program selector k a e low = let t : nat_lt k a ≡ true = grind (arith, nat_tests, low) in rw e t
 
-more_to : (program : Program) (selector k : ℕ) → takes_more program selector k ≡ true → (a : ℕ) × (arity_of program selector ≡ Some a) × (k < a)
+pub more_to : (program : Program) (selector k : ℕ) → takes_more program selector k ≡ true → (a : ℕ) × (arity_of program selector ≡ Some a) × (k < a)
 more_to program selector k t = by_option (arity_of program selector) refl
   where
     by_option : (o : Option ℕ) → arity_of program selector ≡ o → (a : ℕ) × (arity_of program selector ≡ Some a) × (k < a)
     by_option None e = let f : false ≡ true = rw e at t in absurd (false≢true f)
     by_option (Some a) e = let f : nat_lt k a ≡ true = rw e at t in (a, e, grind (arith, nat_tests, f))
 
-some_same : (a b : ℕ) → Some a ≡ Some b → a ≡ b
+pub some_same : (a b : ℕ) → Some a ≡ Some b → a ≡ b
 some_same a b same = cc
 
 abbrev pub itself : Query → Query
@@ -83,7 +83,7 @@ module _ (program : Program) (lawful : Lawful program) where
   abbrev links : List Link
   links = program.graph.links
 
-  definition_at : (selector : ℕ) (d : Definition) → In (definitions_of program selector) d →
+  pub definition_at : (selector : ℕ) (d : Definition) → In (definitions_of program selector) d →
       (arity_of program selector ≡ Some (length d.classes)) × All (λ class. IsTrue (is_live program.graph class)) d.classes
   definition_at selector d i =
       let parts = In-from_filter (λ d. d.selector == selector) program.definitions d i in
@@ -92,7 +92,7 @@ module _ (program : Program) (lawful : Lawful program) where
 
   -- ---- cells
 
-  cell_begins : (query : Query) → Understands program query →
+  pub cell_begins : (query : Query) → Understands program query →
       (takes program query.selector (length query.classes) && is_begun_query program query) ≡ true
   cell_begins query understood =
       let h = (understood_is_held program lawful query).0 understood in
@@ -104,7 +104,7 @@ module _ (program : Program) (lawful : Lawful program) where
       (takes_from program query.selector (length query.classes) (length d.0.classes) at.0 (sym below.1))
       (any_from_In (λ d. begins links query.classes d.classes) (definitions_of program query.selector) d.0 d.1 below.0)
 
-  begins_cell : (query : Query) → (takes program query.selector (length query.classes) && is_begun_query program query) ≡ true →
+  pub begins_cell : (query : Query) → (takes program query.selector (length query.classes) && is_begun_query program query) ≡ true →
       Understands program query
   begins_cell query h =
       let parts = and_parts (takes program query.selector (length query.classes)) (is_begun_query program query) h in
@@ -180,7 +180,7 @@ module _ (program : Program) (lawful : Lawful program) where
       and_from (has_number (descendants program.graph high) class) (is_begun (map (descendants program.graph) highs) classes)
       (cone_has program lawful class high head ∙ parts.0) (begun_from highs classes tail parts.1 (omega (arith, low)))
 
-  row_begins : (prefix : Query) → IsRow program prefix →
+  pub row_begins : (prefix : Query) → IsRow program prefix →
       (takes_more program prefix.selector (length prefix.classes) && is_begun_query program prefix) ≡ true
   row_begins prefix row =
       let h = (rows_are_begun program lawful prefix).0 row in
@@ -192,7 +192,7 @@ module _ (program : Program) (lawful : Lawful program) where
       (more_from program prefix.selector (length prefix.classes) (length d.0.classes) at.0 parts.1)
       (any_from_In (λ d. begins links prefix.classes d.classes) (definitions_of program prefix.selector) d.0 d.1 parts.0)
 
-  begins_row : (prefix : Query) → (takes_more program prefix.selector (length prefix.classes) && is_begun_query program prefix) ≡ true →
+  pub begins_row : (prefix : Query) → (takes_more program prefix.selector (length prefix.classes) && is_begun_query program prefix) ≡ true →
       IsRow program prefix
   begins_row prefix h =
       let parts = and_parts (takes_more program prefix.selector (length prefix.classes)) (is_begun_query program prefix) h in

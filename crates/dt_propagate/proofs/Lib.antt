@@ -18,4 +18,10 @@ pub mod Totals
 pub mod CellsAndRows
 pub mod MoreThan
 pub mod Counted
-pub mod BoundSteps
+pub mod Saturated
+pub mod Listed
+pub mod BelowOne
+pub mod Made
+pub mod SizeBounds
+pub mod NoSizes
+pub mod Parts

@@ -56,3 +56,7 @@ module _ (Holds : Query → Type 0) (all : List Query) (are : AreAll query_order
 
   pub no_more_if_few : length all ≤ most → MoreThan query_order Holds most → ⊥
   no_more_if_few few = no_more_than (length all) (up_to_few most (length all) few)
+
+-- fewer are passed too
+pub more_than_fewer : (Holds : Query → Type 0) (n most : ℕ) → n ≤ most → MoreThan query_order Holds most → MoreThan query_order Holds n
+more_than_fewer Holds n most low more = (more.0, more.1, more.2, omega (arith, low, more.3))

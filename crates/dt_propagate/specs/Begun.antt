@@ -6,7 +6,11 @@ use Rattle.dt_graph.specs.Graph.{Link}
 use Rattle.dt_graph.specs.Below.{is_below}
 use Rattle.dt_definitions.specs.Program.{Program, arity_of, definitions_of}
 use Rattle.dt_scratch.specs.Query.{Query}
+use Rattle.dt_propagate.specs.declared.part.Part.{Part}
+use Rattle.dt_propagate.specs.declared.part.Part.TheVariants.{Cells, Rows}
+use Rattle.dt_propagate.specs.GoneThrough.{all_arities, told_of}
 use Rattle.dt_propagate.specs.Touched.{takes}
+use Rattle.dt_propagate.specs.Understood.{Understands, IsRow}
 
 -- whether each class is below the one in the same position; there may be fewer
 abbrev pub begins : List Link → List ℕ → List ℕ → Bool
@@ -54,3 +58,15 @@ told_row program query =
 -- how many classes a row can have
 unfoldable pub row_lengths : List ℕ
 row_lengths = 0 ∷ 1 ∷ 2 ∷ 3 ∷ []
+
+-- ---- cells and rows alike
+
+-- what the program has of the part
+abbrev pub HasPart : Program → Part → Query → Type 0
+HasPart program Cells = Understands program
+HasPart program Rows = IsRow program
+
+-- what the selector has of it, one after the other
+abbrev pub told_part : Program → Part → ℕ → List Query
+told_part program Cells = told_of (told_cell program) all_arities
+told_part program Rows = told_of (told_row program) row_lengths

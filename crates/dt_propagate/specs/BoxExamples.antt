@@ -1,6 +1,10 @@
--- Worked examples of boxes of class lists, and of what marks do.
+-- Worked examples of boxes of class lists, of what marks do, and of sizes that cost little.
 use Rattle.std.specs.Prelude.{◌≡◌, ℕ, Bool, true, false, ◌==◌, List, [], ◌∷◌, refl}
 use Rattle.dt_propagate.specs.Boxes.{Box, is_within, is_within_any, after_class, in_turn, within, size, sum_of_sizes}
+use Rattle.dt_definitions.specs.Program.{Program}
+use Rattle.dt_definitions.specs.Step.{stepped}
+use Rattle.dt_definitions.specs.declared.edit.Edit.TheVariants as edit
+use Rattle.dt_propagate.specs.Bounds.{firsts, laters, cells_of, rows_of, is_made, made_cells, made_rows}
 use Rattle.dt_propagate.specs.Counts.{is_begun, is_begun_any, box_of, boxes_of}
 use Rattle.dt_propagate.specs.CandidateBoxes.{candidate_box}
 use Rattle.dt_propagate.specs.FinerMarks.{is_marked, are_named}
@@ -105,3 +109,30 @@ not_both_are_named = refl
 
 from_the_second_on : are_named second_of_two 1 (A ∷ []) ≡ true
 from_the_second_on = refl
+
+-- of the lists 1 3 and 2 3 the beginnings are none, 1 and 2, and with a class 1 and 2
+three_firsts : firsts low.sets ≡ 3
+three_firsts = refl
+
+two_laters : laters low.sets ≡ 2
+two_laters = refl
+
+-- each definition of the diamond by itself: two cells each, and one row for the selector
+cells_of_both : cells_of diamond f ≡ 4
+cells_of_both = refl
+
+one_row : rows_of diamond f ≡ 1
+one_row = refl
+
+-- one more definition, at A, is new, and all four classes are below it; that at B is there already
+abbrev with_a : Program
+with_a = stepped diamond (edit.Define f (A ∷ []) 40 ∷ [])
+
+made_at_a : made_cells diamond with_a (record { selector = f; classes = A ∷ [] }) ≡ 4
+made_at_a = refl
+
+no_row_more : made_rows diamond with_a (record { selector = f; classes = A ∷ [] }) ≡ 0
+no_row_more = refl
+
+not_made_at_b : is_made diamond with_a (record { selector = f; classes = B ∷ [] }) ≡ false
+not_made_at_b = refl

@@ -1,14 +1,15 @@
 -- Worked examples of limits and of counted steps.
 use Rattle.std.specs.Prelude.{◌≡◌, ℕ, List, [], ◌∷◌, All, ◌<◌, length, refl}
 use Rattle.std.proofs.Common.{arith}
-use Rattle.std.proofs.lemmas.List.Elements.{All-head}
+use Rattle.std.proofs.lemmas.List.Elements.{All-nil, All-cons, All-head}
 use Rattle.dt_definitions.specs.Program.{empty_program}
 use Rattle.dt_scratch.specs.Query.{Query}
-use Rattle.dt_propagate.specs.Counted.{CountsOn, greatest}
-use Rattle.dt_propagate.specs.Limits.{HasMoreCells, HasMoreRows, IsWithinLimits, IsFullBy}
+use Rattle.dt_scratch.specs.Examples.{B, C, D, f, asks, diamond}
+use Rattle.dt_propagate.specs.Counted.{CountsAt, CountsOn, greatest}
+use Rattle.dt_propagate.specs.Limits.{AreSizesOf, HasMoreCells, HasMoreRows, IsWithinLimits, IsFullBy}
 use Rattle.dt_propagate.specs.Understood.{Understands, IsRow}
 use Rattle.dt_propagate.specs.declared.limits.TheConstants.{CELLS, ROWS}
-use Rattle.dt_propagate.specs.declared.change_fault.ChangeFault.TheVariants.{RowsFull}
+use Rattle.dt_propagate.specs.declared.change_fault.ChangeFault.TheVariants.{CellsFull, RowsFull}
 
 cells : CELLS ≡ 4194304
 cells = refl
@@ -33,6 +34,39 @@ empty_is_within = record { few_cells = no_cell; few_rows = no_row }
 
 empty_passes_none : IsFullBy empty_program RowsFull → ⊥
 empty_passes_none full = no_row full.more_rows
+
+-- no number is too few for the empty program, and two cells are too few for the diamond, which is understood at B, C and D
+sizes_of_none : AreSizesOf empty_program (record { cells = 0; rows = 0 })
+sizes_of_none = record {
+  few_cells = λ more. none_of (Understands empty_program) (λ query understood. understood refl) more.0 more.2 0 more.3;
+  few_rows = λ more. none_of (IsRow empty_program) (λ query row. row.1.understood refl) more.0 more.2 0 more.3;
+}
+
+understood_at_b : Understands diamond (asks f B)
+understood_at_b none = cc
+
+understood_at_c : Understands diamond (asks f C)
+understood_at_c none = cc
+
+understood_at_d : Understands diamond (asks f D)
+understood_at_d none = cc
+
+two_are_too_few : AreSizesOf diamond (record { cells = 2; rows = 1 }) → ⊥
+two_are_too_few are = are.few_cells (
+  asks f B ∷ asks f C ∷ asks f D ∷ [],
+  (refl, (refl, tt)),
+  All-cons (Understands diamond) (asks f B) (asks f C ∷ asks f D ∷ []) understood_at_b
+      (All-cons (Understands diamond) (asks f C) (asks f D ∷ []) understood_at_c
+      (All-cons (Understands diamond) (asks f D) [] understood_at_d (All-nil (Understands diamond)))),
+  omega arith,
+)
+
+-- at a limit no step is counted
+none_at_a_limit : CountsAt CellsFull 3 3
+none_at_a_limit = refl
+
+one_at_a_limit : CountsAt RowsFull 3 4 → ⊥
+one_at_a_limit same = absurd (omega (arith, same))
 
 -- two steps more, and a count that has no more numbers
 two_more : CountsOn 3 5 0 2

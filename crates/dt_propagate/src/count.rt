@@ -1,10 +1,12 @@
 ghost use Rattle.std.specs.Prelude.{◌≡◌, ◌||◌, ℕ, ◌+◌, ◌<◌, ◌≤◌, [], length};
 ghost use Rattle.std.specs.List.{list_any};
 ghost use Rattle.dt_graph.specs.Graph.{has_number};
-ghost use Rattle.dt_propagate.specs.Begun.{arity_or_none, goes_begun, row_lengths, told_begun, told_cell, told_row, up_to};
-ghost use Rattle.dt_propagate.specs.GoneThrough.{all_arities, told_after, told_of, told_of_all};
+ghost use Rattle.dt_propagate.specs.Begun.{arity_or_none, goes_begun, row_lengths, told_begun, told_cell, told_part, told_row, up_to};
+ghost use Rattle.dt_propagate.specs.Boxes.{in_turn};
+ghost use Rattle.dt_propagate.specs.GoneThrough.{all_arities, all_selectors, told_after, told_of};
 ghost use Rattle.dt_definitions.specs.Program.{definitions_of};
 
+use crate::part::Part;
 use arrayvec::ArrayVec;
 use dt_definitions::{Defined, Program};
 use dt_graph::{ClassGraph, ClassNo, ClassSet};
@@ -132,30 +134,26 @@ fn rows_of(program: &Program, selector: SelNo, most: u32) -> Option<u32>
     Some(rows)
 }
 
-// How many cells are understood; `None` where they are more than `most`.
-pub(crate) fn count_cells(program: &Program, most: u32) -> Option<u32>
-    ensures { result ≡ up_to most (length (told_of_all (told_cell program.now) all_arities)) }
+// How many the selector has of the part; `None` where they are more than `most`.
+fn part_of(program: &Program, selector: SelNo, part: Part, most: u32) -> Option<u32>
+    ensures { result ≡ up_to most (length (told_part program.now part selector)) }
 {
-    let mut cells = 0;
-    for number in 0..SELECTORS {
-        let Some(selector) = SelNo::new(number) else {
-            unreachable!();
-        };
-        cells += cells_of(program, selector, most - cells)?;
+    match part {
+        Part::Cells => cells_of(program, selector, most),
+        Part::Rows => rows_of(program, selector, most),
     }
-    Some(cells)
 }
 
-// How many rows there are; `None` where they are more than `most`.
-pub(crate) fn count_rows(program: &Program, most: u32) -> Option<u32>
-    ensures { result ≡ up_to most (length (told_of_all (told_row program.now) row_lengths)) }
+// How many the program has of the part; `None` where they are more than `most`.
+pub(crate) fn count_part(program: &Program, part: Part, most: u32) -> Option<u32>
+    ensures { result ≡ up_to most (length (in_turn (told_part program.now part) all_selectors)) }
 {
-    let mut rows = 0;
+    let mut count = 0;
     for number in 0..SELECTORS {
         let Some(selector) = SelNo::new(number) else {
             unreachable!();
         };
-        rows += rows_of(program, selector, most - rows)?;
+        count += part_of(program, selector, part, most - count)?;
     }
-    Some(rows)
+    Some(count)
 }

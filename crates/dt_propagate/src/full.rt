@@ -1,49 +1,26 @@
-ghost use Rattle.std.specs.Prelude.{◌≡◌, false, IfErr, IsTrue, OnOk};
-ghost use Rattle.dt_propagate.specs.Limits.{HasMoreCells, HasMoreRows, IsFullBy, IsWithinLimits};
+ghost use Rattle.std.specs.Prelude.{◌≡◌, ◌≤◌, IfSome, None};
+ghost use Rattle.dt_scratch.specs.Query.{query_order};
+ghost use Rattle.dt_propagate.specs.Begun.{HasPart};
+ghost use Rattle.dt_propagate.specs.Differences.{MoreThan};
 
-use crate::bound::cells_bound;
-use crate::change_fault::ChangeFault;
-use crate::count::{count_cells, count_rows};
-use crate::limits::{CELLS, ROWS};
+use crate::count::count_part;
+use crate::part::Part;
 use dt_definitions::Program;
 
-// Whether more cells are understood than the limit.
-fn has_more_cells(program: &Program) -> bool
-    ensures more { IsTrue result → HasMoreCells program.now }
-    ensures few { result ≡ false → HasMoreCells program.now → ⊥ }
+// At most how many the program has of the part: the bound, or where that passes `most` the exact number. `None` where
+// there are more than `most`.
+pub(crate) fn kept(program: &Program, part: Part, bound: u64, most: u32) -> Option<u64>
+    ensures few { IfSome result (λ count. count ≤ most) }
+    ensures size { IfSome result (λ count. (bound ≤ most → MoreThan query_order (HasPart program.now part) bound → ⊥)
+        → MoreThan query_order (HasPart program.now part) count → ⊥) }
+    ensures full { result ≡ None → MoreThan query_order (HasPart program.now part) most }
 {
     program.law();
-    if cells_bound(program) <= u64::from(CELLS) {
-        return false;
+    if bound <= u64::from(most) {
+        return Some(bound);
     }
-    match count_cells(program, CELLS) {
-        Some(_count) => false,
-        None => true,
+    match count_part(program, part, most) {
+        Some(count) => Some(u64::from(count)),
+        None => None,
     }
-}
-
-// Whether there are more rows than the limit.
-fn has_more_rows(program: &Program) -> bool
-    ensures more { IsTrue result → HasMoreRows program.now }
-    ensures few { result ≡ false → HasMoreRows program.now → ⊥ }
-{
-    program.law();
-    match count_rows(program, ROWS) {
-        Some(_count) => false,
-        None => true,
-    }
-}
-
-// Which limit the program passes, if it passes any.
-pub(crate) fn limits_kept(program: &Program) -> Result<(), ChangeFault>
-    ensures ok { OnOk result (IsWithinLimits program.now) }
-    ensures err { IfErr result (λ fault. IsFullBy program.now fault) }
-{
-    if has_more_cells(program) {
-        return Err(ChangeFault::CellsFull);
-    }
-    if has_more_rows(program) {
-        return Err(ChangeFault::RowsFull);
-    }
-    Ok(())
 }

@@ -49,6 +49,26 @@ pub(crate) fn moved(old: &ClassGraph, new: &ClassGraph, lows: &[ClassNo]) -> Cla
     moved
 }
 
+// Whether the class is below no other classes than before; where it isn't so, nothing is said.
+fn gains_none(old: &ClassGraph, new: &ClassGraph, class: ClassNo) -> bool
+    ensures { IsTrue result → (high : ℕ) → IsTrue (is_below new.now.links class high) → IsTrue (is_below old.now.links class high) }
+{
+    new.above(class).without(old.above(class)).len() == 0
+}
+
+// Whether none of these is; where it isn't so, nothing is said.
+pub(crate) fn is_none_gained(old: &ClassGraph, new: &ClassGraph, lows: &[ClassNo]) -> bool
+    ensures { IsTrue result → (low high : ℕ) → IsTrue (has_number lows.now low) → IsTrue (is_below new.now.links low high)
+        → IsTrue (is_below old.now.links low high) }
+{
+    for class in lows {
+        if !gains_none(old, new, *class) {
+            return false;
+        }
+    }
+    true
+}
+
 // The class at the position is in the set from now on.
 fn insert_at(classes: &[ClassNo], position: usize, named: &mut ClassSet)
     ensures { (n : ℕ) → has_number named.new n ≡ (has_number named.old n || has_at classes.now position n) }
@@ -87,7 +107,12 @@ fn sees_same(old: &ClassGraph, new: &ClassGraph, named: &ClassSet, class: ClassN
 }
 
 // Those of the classes that may be below other named classes.
-fn changed(old: &ClassGraph, new: &ClassGraph, named: &ClassSet, lows: &[ClassNo]) -> ClassSet
+pub(crate) fn changed(
+    old: &ClassGraph,
+    new: &ClassGraph,
+    named: &ClassSet,
+    lows: &[ClassNo],
+) -> ClassSet
     ensures { (low high : ℕ) → IsTrue (has_number lows.now low) → has_number result low ≡ false
         → IsTrue (has_number named.now high) → is_below old.now.links low high ≡ is_below new.now.links low high }
 {

@@ -92,6 +92,7 @@ pub(crate) fn push_told<L: Ledger>(
 ) -> Result<(), NoMemory>
     ensures told { OnOk result (out.new.changes.items ≡ out.old.changes.items ++ told_change old.now new.now query) }
     ensures counted { OnOk result (CountsOn steps.old steps.new out.old.counted out.new.counted) }
+    ensures grows { steps.old ≤ steps.new }
 {
     out.counted = out.counted.saturating_add(2);
     push_change(old, new, query, steps, &mut out.changes)

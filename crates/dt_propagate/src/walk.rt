@@ -69,6 +69,7 @@ fn push_after<L: Ledger>(
     ensures told { OnOk result (out.new.changes.items ≡ out.old.changes.items
         ++ told_after (told_change old.now new.now) selector more prefix.old.items) }
     ensures counted { OnOk result (CountsOn steps.old steps.new out.old.counted out.new.counted) }
+    ensures grows { steps.old ≤ steps.new }
     ensures prefix { OnOk result (prefix.new.items ≡ prefix.old.items) }
 {
     if more == 0 {
@@ -122,6 +123,7 @@ fn push_with_arity<L: Ledger>(
     ensures told { OnOk result (out.new.changes.items ≡ out.old.changes.items
         ++ told_after (told_change old.now new.now) selector arity []) }
     ensures counted { OnOk result (CountsOn steps.old steps.new out.old.counted out.new.counted) }
+    ensures grows { steps.old ≤ steps.new }
 {
     out.law();
     if !takes(old, selector, arity) && !takes(new, selector, arity) {
@@ -155,6 +157,7 @@ fn push_arities<L: Ledger>(
     requires own { HasOwnKeys old.now new.now selector keys.now edited.now }
     ensures told { OnOk result (out.new.changes.items ≡ out.old.changes.items ++ told_of (told_change old.now new.now) all_arities selector) }
     ensures counted { OnOk result (CountsOn steps.old steps.new out.old.counted out.new.counted) }
+    ensures grows { steps.old ≤ steps.new }
 {
     for arity in 1..5 {
         push_with_arity(old, new, selector, keys, edited, arity, steps, out)?;
@@ -193,6 +196,7 @@ fn push_of<L: Ledger>(
     ensures told { OnOk result (out.new.changes.items ≡ out.old.changes.items
         ++ told_of (told_change old.now new.now) all_arities selector) }
     ensures counted { OnOk result (CountsOn steps.old steps.new out.old.counted out.new.counted) }
+    ensures grows { steps.old ≤ steps.new }
 {
     let own = keys_of(*out.changes.allocator(), keys, selector)?;
     push_arities(old, new, selector, &own, edited, steps, out)
@@ -213,6 +217,7 @@ fn push_if_touched<L: Ledger>(
     requires touched { TouchAll old.now new.now touched.now }
     ensures told { OnOk result (out.new.changes.items ≡ out.old.changes.items ++ told_of (told_change old.now new.now) all_arities selector) }
     ensures counted { OnOk result (CountsOn steps.old steps.new out.old.counted out.new.counted) }
+    ensures grows { steps.old ≤ steps.new }
 {
     out.law();
     if !touched[usize::from(selector.number())] {
@@ -235,6 +240,7 @@ pub(crate) fn push_all<L: Ledger>(
     requires touched { TouchAll old.now new.now touched.now }
     ensures told { OnOk result (out.new.changes.items ≡ out.old.changes.items ++ told_of_all (told_change old.now new.now) all_arities) }
     ensures counted { OnOk result (CountsOn steps.old steps.new out.old.counted out.new.counted) }
+    ensures grows { steps.old ≤ steps.new }
 {
     for number in 0..SELECTORS {
         let Some(selector) = SelNo::new(number) else {

@@ -1,11 +1,12 @@
-use Rattle.std.proofs.Common.{◌+◌, ◌≤◌, take}
-use Rattle.dt_propagate.specs.Boxes.{sum_of_sizes}
-use Rattle.dt_propagate.specs.Bounds.{boxes_below}
-use Rattle.dt_propagate.specs.declared.limits.TheConstants.{CELLS}
+use Rattle.std.proofs.Common.{◌≡◌}
+use Rattle.std.specs.Prelude.{min}
+use Rattle.std.specs.List.{range_with_len, sum_by}
+use Rattle.dt_propagate.specs.Bounds.{cells_of, rows_of}
+use Rattle.dt_propagate.specs.Counted.{greatest}
 use Rattle.dt_propagate.proofs.bound.sizes_below.Given as goal
 
-abbrev pub invariant-loop-defined : goal.invariant-loop-defined
-invariant-loop-defined l = record {
-  sizes : l.total ≤ CELLS → l.fn.more + sum_of_sizes (boxes_below l.fn.graph (take l.defined-index l.fn.definitions)) ≤ l.total;
-  few : l.total ≤ CELLS + 1;
+abbrev pub invariant-loop-number : goal.invariant-loop-number
+invariant-loop-number l = record {
+  cells : l.total.cells ≡ min (sum_by (cells_of l.fn.program) (range_with_len 0 l.number)) greatest;
+  rows : l.total.rows ≡ min (sum_by (rows_of l.fn.program) (range_with_len 0 l.number)) greatest;
 }

@@ -26,4 +26,4 @@ returns g c =
     let f : ℕ → List Change = told_of (told_change c.args.old.now c.args.new.now) all_arities in
     let number = c.loop-number.number in
     let all : number ≡ SELECTORS = omega (arith, c.loop-number-test.false, c.loop-number.auto.number-end) in
-    record { counted = c.loop-number.invariant.counted; told = c.loop-number.invariant.told ∙ ap (λ numbers. c.args.out.now.changes.items ++ in_turn f numbers) (selectors_are number all) }
+    record { grows = c.loop-number.invariant.counted.grows; counted = c.loop-number.invariant.counted; told = c.loop-number.invariant.told ∙ ap (λ numbers. c.args.out.now.changes.items ++ in_turn f numbers) (selectors_are number all) }

@@ -24,4 +24,4 @@ returns g c =
     let f : ℕ → List Change = λ k. told_after (told_change c.args.old.now c.args.new.now) c.args.selector k [] in
     let arity = c.loop-arity.arity in
     let all : arity - 1 ≡ 4 = omega (arith, c.loop-arity-test.false, c.loop-arity.auto.arity-end, c.loop-arity.auto.arity) in
-    record { counted = c.loop-arity.invariant.counted; told = c.loop-arity.invariant.told ∙ ap (λ numbers. c.args.out.now.changes.items ++ in_turn f numbers) (arities_are (arity - 1) all) }
+    record { grows = c.loop-arity.invariant.counted.grows; counted = c.loop-arity.invariant.counted; told = c.loop-arity.invariant.told ∙ ap (λ numbers. c.args.out.now.changes.items ++ in_turn f numbers) (arities_are (arity - 1) all) }

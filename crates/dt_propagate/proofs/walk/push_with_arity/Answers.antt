@@ -1,4 +1,4 @@
-use Rattle.std.proofs.Common.{sym, ap, ◌∙◌, ◌++◌, append-nil}
+use Rattle.std.proofs.Common.{sym, ap, ◌∙◌, ◌++◌, append-nil, arith}
 use Rattle.dt_propagate.proofs.Counted.{counts_none}
 use Rattle.dt_propagate.proofs.Cover.{goes_through_all, goes_through_own}
 use Rattle.dt_propagate.proofs.Touching.{none_of_arity}
@@ -15,4 +15,4 @@ pub returns-then-not-takes-2 : goal.returns-then-not-takes-2
 returns-then-not-takes-2 g c =
     let none = none_of_arity c.args.old.now c.args.new.now c.args.selector c.args.arity c.requires.own.differ.old_lawful c.requires.own.differ.new_lawful
     (sym c.takes.ensures ∙ c.if-not-takes.true) (sym c.takes-then-not-takes.ensures ∙ c.if-not-takes-2.true) in
-    record { counted = counts_none c.args.steps.now c.args.out.now.counted c.law.ensures; told = sym (ap (λ xs. c.args.out.now.changes.items ++ xs) none ∙ append-nil c.args.out.now.changes.items) }
+    record { grows = omega arith; counted = counts_none c.args.steps.now c.args.out.now.counted c.law.ensures; told = sym (ap (λ xs. c.args.out.now.changes.items ++ xs) none ∙ append-nil c.args.out.now.changes.items) }
