@@ -30,17 +30,17 @@ pub record Laying (drafted : Drafted) (left : List (ℕ × ℕ)) (start now : Tr
   pub sorted : IsStrictlySortedBy nat_cmp (keys_of left)
 
 -- the word that is found first, and the others
-find_here : (at word : ℕ) (left : List (ℕ × ℕ)) (q : ℕ) → q ≡ at → find nat_cmp q ((at, word) ∷ left) ≡ Some word
+pub find_here : (at word : ℕ) (left : List (ℕ × ℕ)) (q : ℕ) → q ≡ at → find nat_cmp q ((at, word) ∷ left) ≡ Some word
 find_here at word left q e = ap (λ b. cond b (Some word) (find nat_cmp q left)) (is_number q at ∙ eq-eqb q at e)
 
-find_other : (at word : ℕ) (left : List (ℕ × ℕ)) (q : ℕ) → (q == at) ≡ false → find nat_cmp q ((at, word) ∷ left) ≡ find nat_cmp q left
+pub find_other : (at word : ℕ) (left : List (ℕ × ℕ)) (q : ℕ) → (q == at) ≡ false → find nat_cmp q ((at, word) ∷ left) ≡ find nat_cmp q left
 find_other at word left q f = ap (λ b. cond b (Some word) (find nat_cmp q left)) (is_number q at ∙ f)
 
-none_later : (q : ℕ) (es : List (ℕ × ℕ)) → AllByRecursion (λ y. nat_cmp q y ≡ Less) (keys_of es) → find nat_cmp q es ≡ None
+pub none_later : (q : ℕ) (es : List (ℕ × ℕ)) → AllByRecursion (λ y. nat_cmp q y ≡ Less) (keys_of es) → find nat_cmp q es ≡ None
 none_later q [] all = refl
 none_later q (e ∷ es) all = ap (λ o. cond (is_eq o) (Some e.1) (find nat_cmp q es)) all.0 ∙ none_later q es all.1
 
-some_none : (v : ℕ) (o : Option ℕ) → o ≡ Some v → o ≡ None → ⊥
+pub some_none : (v : ℕ) (o : Option ℕ) → o ≡ Some v → o ≡ None → ⊥
 some_none v o e f = cc
 
 pub first_within : (at word : ℕ) (left : List (ℕ × ℕ)) → ((q : ℕ) → addresses ≤ q → find nat_cmp q ((at, word) ∷ left) ≡ None) → at < addresses
@@ -54,7 +54,7 @@ first_within at word left none = by_cases (nat_lt at addresses)
     past : (a b : ℕ) → nat_lt a b ≡ false → b ≤ a
     past a b f = grind arith
 
-within_rest : (at word : ℕ) (left : List (ℕ × ℕ)) → ((q : ℕ) → addresses ≤ q → find nat_cmp q ((at, word) ∷ left) ≡ None)
+pub within_rest : (at word : ℕ) (left : List (ℕ × ℕ)) → ((q : ℕ) → addresses ≤ q → find nat_cmp q ((at, word) ∷ left) ≡ None)
     → (q : ℕ) → addresses ≤ q → find nat_cmp q left ≡ None
 within_rest at word left none q past = by_cases (q == at)
     (λ t. let e : q ≡ at = eqb-true q at t in absurd (some_none word _ (find_here at word left q e) (none q past)))

@@ -31,7 +31,7 @@ no_more_pass test (x ∷ xs) = go (test x) (no_more_pass test xs)
     go false rest = omega (arith, rest)
 
 -- an address of a list of words other than 0 has such a word
-found_word : (address : ℕ) (es : List (ℕ × ℕ)) → AllByRecursion IsSet es → (k : ℕ) → k < length es → (get_or es k (0, 0)).0 ≡ address
+pub found_word : (address : ℕ) (es : List (ℕ × ℕ)) → AllByRecursion IsSet es → (k : ℕ) → k < length es → (get_or es k (0, 0)).0 ≡ address
     → unwrap_or (find nat_cmp address es) 0 ≢ 0
 found_word address [] all k below is none = absurd (omega arith)
 found_word address (e ∷ es) all zero below is none =

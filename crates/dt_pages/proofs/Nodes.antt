@@ -28,12 +28,12 @@ less_test true same = refl
 less_test false true = refl
 less_test false false = refl
 
-both_true : (a b : Bool) → T (a && b) → T a × T b
+pub both_true : (a b : Bool) → T (a && b) → T a × T b
 both_true true b h = (tt, h)
 both_true false b h = absurd h
 
 -- the first address is below the second
-first_below : (a b : ℕ × ℕ) (es : List (ℕ × ℕ)) → T (is_sorted nat_cmp (a ∷ b ∷ es)) → a.0 < b.0
+pub first_below : (a b : ℕ × ℕ) (es : List (ℕ × ℕ)) → T (is_sorted nat_cmp (a ∷ b ∷ es)) → a.0 < b.0
 first_below a b es sorted =
     let all = both_true (below_all nat_cmp a.0 (b ∷ es)) (is_sorted nat_cmp (b ∷ es)) sorted in
     let first : T (nat_lt a.0 b.0) = subst T (less_test (nat_lt a.0 b.0) (a.0 == b.0)) (both_true (is_lt (nat_cmp a.0 b.0)) (below_all nat_cmp a.0 es) all.0).0 in

@@ -1,9 +1,10 @@
 -- How the words of an image lie in a tree: 512 middle nodes stand over 512 leaves each, and a leaf has 512 words.
 -- Where a node is missing, its words are 0.
-use Rattle.std.specs.Prelude.{ℕ, zero, suc, ◌/◌, ◌%◌, ◌==◌, Bool, false, if◌then◌else◌, List, Option, None, Some, is_some, get_or}
-use Rattle.std.specs.FinMap.{empty, insert}
+use Rattle.std.specs.Prelude.{◌≡◌, ℕ, zero, suc, ◌/◌, ◌%◌, ◌==◌, ◌<◌, ◌||◌, Bool, true, false, length, if◌then◌else◌, List, Option, None, Some, is_some, get_or}
+use Rattle.std.specs.FinMap.{empty, insert, get}
 use Rattle.dt_pages.specs.Reading.{Reading, addresses}
 use Rattle.dt_pages.specs.Image.{Image}
+use Rattle.dt_pages.specs.Draft.{Drafted}
 
 -- the image of the words of a reading at the addresses below a bound
 unfoldable pub image_below : Reading → ℕ → Image
@@ -46,3 +47,17 @@ has_leaf (Some leaves) at = is_some (get_or leaves (at / 512) None)
 -- whether the tree has the leaf of this address
 abbrev pub has_room : TreeForm → ℕ → Bool
 has_room middles address = has_leaf (get_or middles (address / 262144) None) (address % 262144)
+
+-- whether one of two middle nodes has the leaf of this place
+abbrev pub has_either_leaf : Option MiddleForm → Option MiddleForm → ℕ → Bool
+has_either_leaf middle room at = has_leaf middle at || has_leaf room at
+
+-- whether the tree or its rooms have the leaf of this address
+abbrev pub has_either : TreeForm → TreeForm → ℕ → Bool
+has_either middles rooms address = has_room middles address || has_room rooms address
+
+-- nodes without words, and among them the leaf of each address that changes
+pub record AreRooms (middles : TreeForm) (changes : Drafted) : Type 0 where
+  pub count : length middles ≡ 512
+  pub zeros : (address : ℕ) → word_of_tree middles address ≡ 0
+  pub rooms : (address : ℕ) → address < addresses → is_some (get changes address) ≡ true → has_room middles address ≡ true

@@ -3,16 +3,24 @@
 
 ghost use Rattle.dt_pages.specs.Reach.{EachReachIsListed};
 ghost use Rattle.dt_pages.specs.Laws.{NodesAreFew, NodesInRegionsAreFew, ReachedPagesDecide, PageZeroIsEmpty, NodesAreCounted, DifferencesAreSeen, LevelsHoldAddresses, ImagesSetWords, NothingIsPastTheLast, FirstNeedsAll, SameNeedsNone, NeedIsAtMostNodes};
+ghost use Rattle.dt_pages.specs.NumberingLaws.{StandingIsRead, NodesAreReached, BothStand, ReachOfFollowing, FreeAreNotReached, WrittenPlansAreRead, WrittenPlansReach};
+ghost use Rattle.dt_pages.specs.FourSelectors.{NeedsOfFourSelectors};
 ghost use Rattle.dt_pages.specs.ThreeWords.{SixPages, PlacesOfThreeWords};
 
+mod changes;
 mod draft;
+mod drawing;
 mod leaf;
 mod middle;
 mod overlay;
+mod paged;
+mod plan;
 mod tree;
 mod words;
 
 pub use draft::Draft;
+pub use paged::PagedTree;
+pub use plan::Plan;
 pub use tree::Tree;
 pub use words::Words;
 
@@ -67,4 +75,32 @@ pub fn six_pages_show_three_words()
 /// The same image: where its nodes stand, and what a word that changes, goes or comes needs.
 pub fn nodes_of_three_words()
     ensures { PlacesOfThreeWords }
+{}
+
+/// A tree stands in the words of all pages where the page of each node has what stands below it: then its top page gives its
+/// image, and beside page 0 reaches the pages of its nodes and no other, so no free one.
+pub fn standing_trees_are_read()
+    ensures read { StandingIsRead }
+    ensures reached { NodesAreReached }
+    ensures free { FreeAreNotReached }
+{}
+
+/// Once the pages of a following tree are written, the old tree still stands, and so does the new one: beside page 0 it
+/// reaches the pages of the old one without those that are gone, and those that were written.
+pub fn old_and_new_trees_stand()
+    ensures stand { BothStand }
+    ensures reached { ReachOfFollowing }
+{}
+
+/// Another example: what three versions of a class with four selectors need, with cells in leaves of their own and in one leaf.
+pub fn needs_of_four_selectors()
+    ensures { NeedsOfFourSelectors }
+{}
+
+/// Once the words of a plan stand in its pages, and neither page 0 nor a page of the old tree was written, the old tree still
+/// stands and so does the new one: its top gives the words of the draft over those of the old tree, and beside page 0 reaches the
+/// pages of the old tree without those that are gone, and those of the list.
+pub fn written_plans_are_read()
+    ensures read { WrittenPlansAreRead }
+    ensures reached { WrittenPlansReach }
 {}

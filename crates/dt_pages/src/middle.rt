@@ -1,5 +1,5 @@
 ghost use Rattle.std.specs.Prelude.{◌≡◌, ◌<◌, ◌==◌, ℕ, true, length, get_or, None, Some, IfOk, OnOk, if◌then◌else◌};
-ghost use Rattle.dt_pages.specs.TreeForm.{word_of_middle, has_leaf};
+ghost use Rattle.dt_pages.specs.TreeForm.{word_of_middle, has_leaf, has_either_leaf};
 
 use crate::leaf::{LEAF, Leaf};
 use dt_graph::NoMemory;
@@ -73,6 +73,21 @@ impl Middle {
             self.leaves[place] = Some(Leaf::new(alloc)?);
         }
         Ok(())
+    }
+
+    // The leaf of this place, where it is missing, is taken from a node without words; no word changes.
+    pub(crate) fn take_leaf(&mut self, room: &mut Middle, at: usize)
+        requires within { at < 262144 }
+        requires zeros { (q : ℕ) → q < 262144 → word_of_middle (Some room.old) q ≡ 0 }
+        ensures words { (q : ℕ) → word_of_middle (Some self.new) q ≡ word_of_middle (Some self.old) q }
+        ensures zeros { (q : ℕ) → q < 262144 → word_of_middle (Some room.new) q ≡ 0 }
+        ensures either { (q : ℕ) → has_either_leaf (Some self.new) (Some room.new) q ≡ has_either_leaf (Some self.old) (Some room.old) q }
+        ensures there { has_either_leaf (Some self.old) (Some room.old) at ≡ true → has_leaf (Some self.new) at ≡ true }
+    {
+        let place = at / LEAF;
+        if self.leaves[place].is_none() {
+            self.leaves[place] = room.leaves[place].take();
+        }
     }
 
     // The word at this place, whose leaf is there, is another.

@@ -3,10 +3,12 @@ ghost use Rattle.std.specs.FinMap.{empty};
 ghost use Rattle.dt_pages.specs.Reading.{addresses};
 ghost use Rattle.dt_pages.specs.Image.{IsImage, look_up};
 ghost use Rattle.dt_pages.specs.Draft.{laid_over};
+ghost use Rattle.dt_pages.specs.TreeForm.{AreRooms};
 
+use crate::changes::Changes;
 use crate::draft::Draft;
 use crate::middle::{MIDDLE, Middle};
-use crate::overlay::{lay_all, make_rooms};
+use crate::overlay::{lay_all, lay_changes, make_rooms};
 use crate::words::Words;
 use dt_graph::NoMemory;
 use std::alloc::Global;
@@ -49,6 +51,15 @@ fn no_middles(alloc: Global, count: usize) -> Result<Vec<Option<Middle>>, NoMemo
     Ok(middles)
 }
 
+// Nodes without words, and among them the leaf of each word of the draft.
+pub(crate) fn rooms_of(alloc: Global, draft: &Draft) -> Result<Vec<Option<Middle>>, NoMemory>
+    ensures { IfOk result (λ rooms. AreRooms rooms.items draft.now) }
+{
+    let mut rooms = no_middles(alloc, MIDDLES)?;
+    make_rooms(&mut rooms, draft)?;
+    Ok(rooms)
+}
+
 impl Tree {
     /// The image in which nothing is set.
     pub fn new(alloc: Global) -> Result<Tree, NoMemory>
@@ -86,6 +97,15 @@ impl Tree {
         make_rooms(&mut self.middles, &draft)?;
         lay_all(&mut self.middles, &draft);
         Ok(())
+    }
+
+    // The words among the changes are set, with nodes from the rooms where one is missing.
+    pub(crate) fn adopt(&mut self, changes: &Changes, rooms: Vec<Option<Middle>>)
+        requires { AreRooms rooms.items changes.now }
+        ensures { (address : ℕ) → address < addresses → look_up self.new address ≡ laid_over changes.now (look_up self.old) address }
+    {
+        let mut rooms = rooms;
+        lay_changes(&mut self.middles, &mut rooms, changes);
     }
 }
 
