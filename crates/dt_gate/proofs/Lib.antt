@@ -16,6 +16,7 @@ pub mod Running
 pub mod ReaderLaws
 pub mod Words
 pub mod Accesses
+pub mod InsideRoots
 pub mod Room
 pub mod Sweeping
 pub mod SmallRuns

@@ -19,7 +19,7 @@ use Rattle.dt_gate.specs.Seats.{IsReader}
 use Rattle.dt_gate.specs.Events.{IsAllowed, step}
 use Rattle.dt_gate.specs.Counts.{one_reader, times_in, times_taken, times_entered}
 use Rattle.dt_gate.specs.Sound.{IsSound, WornWasTaken}
-use Rattle.dt_gate.specs.Runs.{InRange, after, AreAllowed, IsReached}
+use Rattle.dt_gate.specs.Runs.{InRange, gate_after, AreAllowed, IsReached}
 use Rattle.dt_gate.proofs.Kept.{Kept}
 use Rattle.dt_gate.proofs.Histories.{prefix_empty}
 use Rattle.dt_gate.proofs.ShownRoots.{nothing_stands}
@@ -137,7 +137,7 @@ module _ {M I : Type 0} (shows : Reading → List I → Type 0) (bounds : Bounds
         spent_is_not_in : {root : ℕ} {frozen : _} → ¬ (Spent ≡ In root frozen)
         spent_is_not_in c = cc
 
-  pub kept_after : ReachedPagesDecide → (events : List (Event M I)) (gate : Gate M I) → Kept shows bounds gate → AreAllowed shows bounds gate events → Kept shows bounds (after bounds gate events)
+  pub kept_after : ReachedPagesDecide → (events : List (Event M I)) (gate : Gate M I) → Kept shows bounds gate → AreAllowed shows bounds gate events → Kept shows bounds (gate_after bounds gate events)
   kept_after tree [] gate kept allowed = kept
   kept_after tree (event ∷ events) gate kept allowed = kept_after tree events (step bounds gate event) (kept_step shows bounds tree gate event kept allowed.0) allowed.1
 
@@ -189,12 +189,12 @@ module _ {M I : Type 0} (shows : Reading → List I → Type 0) (bounds : Bounds
   step_is_sound tree gate event before allowed = sound (step bounds gate event) (kept_step shows bounds tree gate event (sound_is_kept gate before) allowed)
 
   -- one event more
-  pub allowed_more : (events : List (Event M I)) (gate : Gate M I) (event : Event M I) → AreAllowed shows bounds gate events → IsAllowed shows bounds (after bounds gate events) event
+  pub allowed_more : (events : List (Event M I)) (gate : Gate M I) (event : Event M I) → AreAllowed shows bounds gate events → IsAllowed shows bounds (gate_after bounds gate events) event
       → AreAllowed shows bounds gate (events ++ event ∷ [])
   allowed_more [] gate event all here = (here, tt)
   allowed_more (first ∷ events) gate event all here = (all.0, allowed_more events (step bounds gate first) event all.1 here)
 
-  pub after_more : (events : List (Event M I)) (gate : Gate M I) (event : Event M I) → after bounds gate (events ++ event ∷ []) ≡ step bounds (after bounds gate events) event
+  pub after_more : (events : List (Event M I)) (gate : Gate M I) (event : Event M I) → gate_after bounds gate (events ++ event ∷ []) ≡ step bounds (gate_after bounds gate events) event
   after_more [] gate event = refl
   after_more (first ∷ events) gate event = after_more events (step bounds gate first) event
 
@@ -206,8 +206,8 @@ module _ {M I : Type 0} (shows : Reading → List I → Type 0) (bounds : Bounds
   )
 
   module _ (in_range : InRange bounds) (empty : shows blank []) (tree : ReachedPagesDecide) (page_zero : PageZeroIsEmpty) where
-    pub runs_are_sound : (events : List (Event M I)) → AreAllowed shows bounds (fresh bounds) events → IsSound shows bounds (after bounds (fresh bounds) events)
-    runs_are_sound events allowed = sound (after bounds (fresh bounds) events) (kept_after tree events (fresh bounds) (fresh_is_kept in_range empty page_zero) allowed)
+    pub runs_are_sound : (events : List (Event M I)) → AreAllowed shows bounds (fresh bounds) events → IsSound shows bounds (gate_after bounds (fresh bounds) events)
+    runs_are_sound events allowed = sound (gate_after bounds (fresh bounds) events) (kept_after tree events (fresh bounds) (fresh_is_kept in_range empty page_zero) allowed)
 
     pub reached_is_kept : (gate : Gate M I) → IsReached shows bounds gate → Kept shows bounds gate
     reached_is_kept gate reached = subst (Kept shows bounds) reached.2

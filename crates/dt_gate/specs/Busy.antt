@@ -13,7 +13,7 @@ use Rattle.dt_gate.specs.declared.gate.Stage.TheVariants.{Out, In, Note}
 use Rattle.dt_gate.specs.declared.gate.Standing.TheVariants.{Now, Old}
 use Rattle.dt_gate.specs.Gate.{Bounds, bounds_of, nothing_laid, blank_root, fresh}
 use Rattle.dt_gate.specs.Sound.{IsSound}
-use Rattle.dt_gate.specs.Runs.{after, AreAllowed}
+use Rattle.dt_gate.specs.Runs.{gate_after, AreAllowed}
 use Rattle.dt_gate.specs.WrongMachines.{anything, laying}
 
 -- a meaning by which every reading shows every list but the empty one
@@ -95,5 +95,5 @@ busy_run = SeatOut ∷ SeatOut ∷ Look 0 ∷ Enter 0 ∷ Look 1 ∷ Enter 1 ∷
 -- the run is allowed, and leads to the gate, which is sound
 pub record BusyIsReached : Type 0 where
   pub allowed : AreAllowed anything two (fresh two) busy_run
-  pub leads_there : after two (fresh two) busy_run ≡ busy
+  pub leads_there : gate_after two (fresh two) busy_run ≡ busy
   pub is_sound : IsSound anything two busy

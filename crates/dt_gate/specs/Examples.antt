@@ -11,7 +11,7 @@ use Rattle.dt_gate.specs.declared.gate.Stage.TheVariants.{Out, Spent}
 use Rattle.dt_gate.specs.declared.gate.Standing.TheVariants.{Free, Now, Old}
 use Rattle.dt_gate.specs.Gate.{Bounds, bounds_of, blank_root, root_at, seat_at, fresh}
 use Rattle.dt_gate.specs.Readers.{word_now}
-use Rattle.dt_gate.specs.Runs.{after, AreAllowed}
+use Rattle.dt_gate.specs.Runs.{gate_after, AreAllowed}
 use Rattle.dt_gate.specs.WrongMachines.{small, start, anything, laying, one_inside_an_old_root}
 
 -- one reader, no pages
@@ -46,12 +46,12 @@ polled_free = polled_held ++ Leave 0 ∷ Poll 0 ∷ []
 -- the old root is found held while the reader is inside, and is free once it has left
 pub record OldRootIsFreed : Type 0 where
   pub allowed : AreAllowed anything small start polled_free
-  pub still_old : (root_at (after small start polled_held).author 0).standing ≡ Old 1
-  pub found_held : (after small start polled_held).author.held ≡ 0 ∷ []
-  pub then_free : (root_at (after small start polled_free).author 0).standing ≡ Free
-  pub other_is_current : (root_at (after small start polled_free).author 1).standing ≡ Now
-  pub polls : (after small start polled_free).author.polls ≡ (0, 0) ∷ (0, 1) ∷ []
-  pub history : (after small start polled_free).author.history ≡ 7 ∷ []
+  pub still_old : (root_at (gate_after small start polled_held).author 0).standing ≡ Old 1
+  pub found_held : (gate_after small start polled_held).author.held ≡ 0 ∷ []
+  pub then_free : (root_at (gate_after small start polled_free).author 0).standing ≡ Free
+  pub other_is_current : (root_at (gate_after small start polled_free).author 1).standing ≡ Now
+  pub polls : (gate_after small start polled_free).author.polls ≡ (0, 0) ∷ (0, 1) ∷ []
+  pub history : (gate_after small start polled_free).author.history ≡ 7 ∷ []
 
 -- three readers, and a limit of two entries
 abbrev pub three_readers : Bounds
@@ -72,10 +72,10 @@ one_looks_again = three_inside ++ Leave 0 ∷ Look 0 ∷ []
 -- the entries pass the limit, by less than the readers; the next look finds three, and is worn
 pub record PastTheLimit : Type 0 where
   pub allowed : AreAllowed anything three_readers begun one_looks_again
-  pub entries : (after three_readers begun one_looks_again).entries ≡ 3
-  pub still_out : (seat_at (after three_readers begun one_looks_again) 0).stage ≡ Out
-  pub worn : (seat_at (after three_readers begun one_looks_again) 0).worn ≡ (0, 3) ∷ []
-  pub entered : (seat_at (after three_readers begun one_looks_again) 0).entered ≡ 0 ∷ []
+  pub entries : (gate_after three_readers begun one_looks_again).entries ≡ 3
+  pub still_out : (seat_at (gate_after three_readers begun one_looks_again) 0).stage ≡ Out
+  pub worn : (seat_at (gate_after three_readers begun one_looks_again) 0).worn ≡ (0, 3) ∷ []
+  pub entered : (seat_at (gate_after three_readers begun one_looks_again) 0).entered ≡ 0 ∷ []
 
 -- a meaning with a content: the word at address 0 is the number of items
 abbrev pub counted : Reading → List ℕ → Type 0
@@ -92,10 +92,10 @@ read_down = filled_and_published ++ SeatOut ∷ Look 0 ∷ Enter 0 ∷ Read 0 To
 -- what was filled is read, and counts the items
 pub record PagesAreRead : Type 0 where
   pub allowed : AreAllowed counted small start read_down
-  pub top : word_now (after small start read_down).author 1 Top ≡ 1
-  pub middle : word_now (after small start read_down).author 1 (Page 1 0) ≡ 2
-  pub leaf : word_now (after small start read_down).author 1 (Page 2 0) ≡ 3
-  pub word : word_now (after small start read_down).author 1 (Page 3 0) ≡ 1
+  pub top : word_now (gate_after small start read_down).author 1 Top ≡ 1
+  pub middle : word_now (gate_after small start read_down).author 1 (Page 1 0) ≡ 2
+  pub leaf : word_now (gate_after small start read_down).author 1 (Page 2 0) ≡ 3
+  pub word : word_now (gate_after small start read_down).author 1 (Page 3 0) ≡ 1
 
 -- a version is published, and a reader that hasn't looked hears of it by a note of the author
 abbrev pub told_by_a_note : List (Event ℕ ℕ)
@@ -104,9 +104,9 @@ told_by_a_note = SeatOut ∷ laying 0 ++ Publish 1 7 ∷ NoteOut holder.Author �
 -- the reader has the author's history, and keeps both; the note is spent
 pub record NoteTellsHistory : Type 0 where
   pub allowed : AreAllowed anything small start told_by_a_note
-  pub history : (seat_at (after small start told_by_a_note) 0).history ≡ 7 ∷ []
-  pub joined : (seat_at (after small start told_by_a_note) 0).joined ≡ ([], 7 ∷ [])
-  pub note : (seat_at (after small start told_by_a_note) 1).stage ≡ Spent
+  pub history : (seat_at (gate_after small start told_by_a_note) 0).history ≡ 7 ∷ []
+  pub joined : (seat_at (gate_after small start told_by_a_note) 0).joined ≡ ([], 7 ∷ [])
+  pub note : (seat_at (gate_after small start told_by_a_note) 1).stage ≡ Spent
 
 -- a reader enters once, looks once more at the limit, and is given back
 abbrev pub given_back : List (Event ℕ ℕ)
@@ -115,9 +115,9 @@ given_back = SeatOut ∷ Look 0 ∷ Enter 0 ∷ Leave 0 ∷ Look 0 ∷ SeatBack 
 -- the author has what the reader entered and its worn look, and no reader is out
 pub record SeatIsTakenBack : Type 0 where
   pub allowed : AreAllowed anything small start given_back
-  pub out : (after small start given_back).author.out ≡ 0
-  pub taken : (after small start given_back).author.taken ≡ (0 ∷ []) ∷ []
-  pub worn : (after small start given_back).author.worn ≡ ((0, 1) ∷ []) ∷ []
+  pub out : (gate_after small start given_back).author.out ≡ 0
+  pub taken : (gate_after small start given_back).author.taken ≡ (0 ∷ []) ∷ []
+  pub worn : (gate_after small start given_back).author.worn ≡ ((0, 1) ∷ []) ∷ []
 
 -- ---- two roots are held in one sweep
 
@@ -134,10 +134,10 @@ abbrev two_inside : List (Event ℕ ℕ)
 two_inside = SeatOut ∷ SeatOut ∷ Look 0 ∷ Enter 0 ∷ published ++ Look 1 ∷ Enter 1
     ∷ Lay 2 laid.Exits 0 ∷ Lay 2 laid.Version 2 ∷ Lay 2 laid.Top 0 ∷ Publish 2 8 ∷ Poll 0 ∷ Poll 1 ∷ []
 
-both_are_held : (after two_readers (fresh {M = ℕ} two_readers) two_inside).author.held ≡ 0 ∷ 1 ∷ []
+both_are_held : (gate_after two_readers (fresh {M = ℕ} two_readers) two_inside).author.held ≡ 0 ∷ 1 ∷ []
 both_are_held = refl
 
-as_many_as_readers : (after two_readers (fresh {M = ℕ} two_readers) two_inside).author.sweep ≡ 2
+as_many_as_readers : (gate_after two_readers (fresh {M = ℕ} two_readers) two_inside).author.sweep ≡ 2
 as_many_as_readers = refl
 
 -- ---- worn by another reader
@@ -150,8 +150,8 @@ one_entry = bounds_of 2 16 1
 abbrev worn_at_first : List (Event ℕ ℕ)
 worn_at_first = SeatOut ∷ SeatOut ∷ published ++ Look 1 ∷ Enter 1 ∷ Look 0 ∷ []
 
-the_worn_look : (seat_at (after one_entry (fresh {M = ℕ} one_entry) worn_at_first) 0).worn ≡ (1, 1) ∷ []
+the_worn_look : (seat_at (gate_after one_entry (fresh {M = ℕ} one_entry) worn_at_first) 0).worn ≡ (1, 1) ∷ []
 the_worn_look = refl
 
-it_has_seen_the_version : (seat_at (after one_entry (fresh {M = ℕ} one_entry) worn_at_first) 0).history ≡ 7 ∷ []
+it_has_seen_the_version : (seat_at (gate_after one_entry (fresh {M = ℕ} one_entry) worn_at_first) 0).history ≡ 7 ∷ []
 it_has_seen_the_version = refl

@@ -18,9 +18,9 @@ pub record InRange (bounds : Bounds) : Type 0 where
 
 module _ {M I : Type 0} where
   -- the gate after these events
-  abbrev pub after : Bounds → Gate M I → List (Event M I) → Gate M I
-  after bounds gate [] = gate
-  after bounds gate (event ∷ events) = after bounds (step bounds gate event) events
+  abbrev pub gate_after : Bounds → Gate M I → List (Event M I) → Gate M I
+  gate_after bounds gate [] = gate
+  gate_after bounds gate (event ∷ events) = gate_after bounds (step bounds gate event) events
 
   -- each of these events is allowed where it stands
   abbrev pub AreAllowed : (Reading → List I → Type 0) → Bounds → Gate M I → List (Event M I) → Type 0
@@ -32,12 +32,12 @@ module _ {M I : Type 0} where
   -- the gate is sound
   abbrev pub EveryRunIsSound : (Reading → List I → Type 0) → Bounds → List (Event M I) → Type 0
   EveryRunIsSound shows bounds events = (n : ℕ) → AreAllowed shows bounds (fresh bounds) (take n events)
-      → IsSound shows bounds (after bounds (fresh bounds) (take n events))
+      → IsSound shows bounds (gate_after bounds (fresh bounds) (take n events))
 
   -- some run of allowed events leads from the fresh gate to this one
   abbrev pub IsReached : (Reading → List I → Type 0) → Bounds → Gate M I → Type 0
   IsReached shows bounds gate = (events : List (Event M I))
-      × AreAllowed shows bounds (fresh bounds) events × (after bounds (fresh bounds) events ≡ gate)
+      × AreAllowed shows bounds (fresh bounds) events × (gate_after bounds (fresh bounds) events ≡ gate)
 
 module _ (M : Type 0) {I : Type 0} (shows : Reading → List I → Type 0) (bounds : Bounds) where
   -- every gate that is reached is sound

@@ -12,7 +12,7 @@ use Rattle.dt_gate.specs.Gate.{Bounds, bounds_of, root_at, seat_at, fresh}
 use Rattle.dt_gate.specs.Author.{with_root, after_publish}
 use Rattle.dt_gate.specs.Events.{IsAllowed, step}
 use Rattle.dt_gate.specs.Sound.{IsSound}
-use Rattle.dt_gate.specs.Runs.{after, AreAllowed}
+use Rattle.dt_gate.specs.Runs.{gate_after, AreAllowed}
 
 -- the runs are of one reader, sixteen pages and a limit of one entry; the items of the history are numbers
 abbrev pub small : Bounds
@@ -45,8 +45,8 @@ publish_that_frees gate root item = record gate {
 -- a run after which it breaks soundness: the reader is inside a free root
 pub record FreesAtOnce : Type 0 where
   pub before : AreAllowed anything small start one_inside_and_laid
-  pub publish : IsAllowed anything small (after small start one_inside_and_laid) (Publish 1 7)
-  pub breaks : ¬ IsSound anything small (publish_that_frees (after small start one_inside_and_laid) 1 7)
+  pub publish : IsAllowed anything small (gate_after small start one_inside_and_laid) (Publish 1 7)
+  pub breaks : ¬ IsSound anything small (publish_that_frees (gate_after small start one_inside_and_laid) 1 7)
 
 -- Publish takes the entries out as it stores. This one loads them first, and stores later.
 abbrev pub publish_by_store : ℕ → Gate ℕ ℕ → ℕ → ℕ → Gate ℕ ℕ
@@ -59,10 +59,10 @@ near_and_laid = SeatOut ∷ Look 0 ∷ laying 0
 -- a run after which it breaks soundness: the entry between is not among those of the old root
 pub record LoadsThenStores : Type 0 where
   pub before : AreAllowed anything small start near_and_laid
-  pub loaded : (after small start near_and_laid).entries ≡ 0
-  pub between : IsAllowed anything small (after small start near_and_laid) (Enter 0)
-  pub publish : IsAllowed anything small (after small start (near_and_laid ++ Enter 0 ∷ [])) (Publish 1 7)
-  pub breaks : ¬ IsSound anything small (publish_by_store 0 (after small start (near_and_laid ++ Enter 0 ∷ [])) 1 7)
+  pub loaded : (gate_after small start near_and_laid).entries ≡ 0
+  pub between : IsAllowed anything small (gate_after small start near_and_laid) (Enter 0)
+  pub publish : IsAllowed anything small (gate_after small start (near_and_laid ++ Enter 0 ∷ [])) (Publish 1 7)
+  pub breaks : ¬ IsSound anything small (publish_by_store 0 (gate_after small start (near_and_laid ++ Enter 0 ∷ [])) 1 7)
 
 -- Poll loads the exits of an old root. This one stores there what it waits for.
 abbrev pub poll_that_drains : Gate ℕ ℕ → ℕ → Standing → Gate ℕ ℕ
@@ -77,9 +77,9 @@ one_inside_an_old_root = one_inside_and_laid ++ Publish 1 7 ∷ []
 -- a run after which it breaks soundness: the reader inside has not left
 pub record DrainsExits : Type 0 where
   pub before : AreAllowed anything small start one_inside_an_old_root
-  pub poll : IsAllowed anything small (after small start one_inside_an_old_root) (Poll 0)
+  pub poll : IsAllowed anything small (gate_after small start one_inside_an_old_root) (Poll 0)
   pub breaks : ¬ IsSound anything small
-      (poll_that_drains (after small start one_inside_an_old_root) 0 (root_at (after small start one_inside_an_old_root).author 0).standing)
+      (poll_that_drains (gate_after small start one_inside_an_old_root) 0 (root_at (gate_after small start one_inside_an_old_root).author 0).standing)
 
 -- Enter is allowed to a seat that is near. This one is allowed to a seat that is out as well,
 -- so no look need stand before it.
@@ -100,7 +100,7 @@ three_entries = SeatOut ∷ Enter 0 ∷ Leave 0 ∷ Enter 0 ∷ Leave 0 ∷ Ente
 -- after them soundness is broken: three entries are more than the limit and the reader
 pub record EntersWithoutALook : Type 0 where
   pub before : AreAllowedBare start three_entries
-  pub breaks : ¬ IsSound anything small (after small start three_entries)
+  pub breaks : ¬ IsSound anything small (gate_after small start three_entries)
 
 -- Fill is allowed where no live root reaches the page. This one is allowed at every page but page 0.
 abbrev pub IsAllowedAnywhere : ℕ → ℕ → Type 0
@@ -114,4 +114,4 @@ inside_page_one = laying 1 ++ Publish 1 7 ∷ SeatOut ∷ Look 0 ∷ Enter 0 ∷
 pub record FillsUnderAReader : Type 0 where
   pub before : AreAllowed anything small start inside_page_one
   pub fill : IsAllowedAnywhere 1 0
-  pub breaks : ¬ IsSound anything small (step small (after small start inside_page_one) (Fill 1 0 5))
+  pub breaks : ¬ IsSound anything small (step small (gate_after small start inside_page_one) (Fill 1 0 5))

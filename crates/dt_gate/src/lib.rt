@@ -7,6 +7,7 @@
 #![tactic(auto)]
 
 mod access;
+mod all_bounds;
 mod event;
 mod examples;
 mod gate;
@@ -15,6 +16,7 @@ mod meaning;
 mod wrong;
 
 pub use access::Access;
+pub use all_bounds::laws_of_runs;
 pub use event::{Event, Holder, ReadWord, RecordWord};
 pub use examples::{
     Counting, a_busy_gate_is_reached, a_note_tells_the_history, a_seat_is_taken_back,
