@@ -1,0 +1,9 @@
+pub mod Lists
+pub mod Seats
+pub mod Steps
+pub mod Calls
+pub mod AuthorSteps
+pub mod AuthorCalls
+pub mod AuthorPlaces
+pub mod Opening
+pub mod Giving

@@ -1,0 +1,89 @@
+-- Worked examples: the words and views of small stores, and runs of two readers.
+use Rattle.std.specs.Prelude.{◌≡◌, ℕ, ◌+◌, List, [], ◌∷◌, ◌++◌, length, take, refl}
+use Rattle.dt_gate.specs.declared.event.Event.{Event}
+use Rattle.dt_gate.specs.declared.event.Event.TheVariants.{Look, Enter, Read, Leave, Publish, SeatOut, SeatBack}
+use Rattle.dt_gate.specs.declared.event.ReadWord.TheVariants.{Version, Top, Page}
+use Rattle.dt_gate.specs.declared.gate.Gate.{Gate}
+use Rattle.dt_gate.specs.declared.gate.Stage.TheVariants.{Out}
+use Rattle.dt_gate.specs.Gate.{fresh, fresh_author, seat_at}
+use Rattle.dt_gate.specs.Runs.{gate_after}
+use Rattle.dt_gate.specs.Words.{words_of, access_of, word_of, found}
+use Rattle.dt_gate.specs.Seats.{given}
+use Rattle.dt_gate.specs.WrongMachines.{small, start}
+use Rattle.dt_gate.specs.Examples.{filled_and_published}
+use Rattle.dt_version.specs.declared.view.Size.{Size}
+use Rattle.dt_version.specs.declared.view.View.TheVariants as view
+use Rattle.dt_version.specs.Limits.{bounds, word_count}
+use Rattle.dt_version.specs.Views.{views_of}
+
+-- one reader, sixteen pages, a limit of one entry; and two readers with a limit of five
+abbrev one : Size
+one = record { readers = 1; pages = 16; entries = 1 }
+
+abbrev two : Size
+two = record { readers = 2; pages = 16; entries = 5 }
+
+-- ---- the words of a fresh store: the version word, three for each of three roots, and those of sixteen pages, all of them 0
+
+as_many_words : length (words_of (fresh {M = ℕ} {I = ℕ} (bounds one))) ≡ word_count 1 16
+as_many_words = refl
+
+the_first_words : take 12 (words_of (fresh {M = ℕ} {I = ℕ} (bounds one))) ≡ 0 ∷ 0 ∷ 0 ∷ 0 ∷ 0 ∷ 0 ∷ 0 ∷ 0 ∷ 0 ∷ 0 ∷ 0 ∷ 0 ∷ []
+the_first_words = refl
+
+-- its one view is the author's
+the_first_view : views_of one (fresh {M = ℕ} {I = ℕ} (bounds one)) ≡ view.Author one (fresh_author (bounds one)) ∷ []
+the_first_view = refl
+
+-- ---- two readers and a limit of five
+
+-- a reader looks, enters and leaves
+abbrev visit : ℕ → List (Event ℕ ℕ)
+visit seat = Look seat ∷ Enter seat ∷ Leave seat ∷ []
+
+-- two readers enter four times, and the first once more
+abbrev five : Gate ℕ ℕ
+five = gate_after (bounds two) (fresh (bounds two)) (SeatOut ∷ SeatOut ∷ visit 0 ++ visit 1 ++ visit 0 ++ visit 1 ++ Look 0 ∷ Enter 0 ∷ [])
+
+-- the version word has root 0 with five entries; four have left
+the_words_of_five : take 3 (words_of five) ≡ 5 ∷ 4 ∷ 0 ∷ []
+the_words_of_five = refl
+
+-- the fifth reader was let in at four entries; the next look finds five, and is worn
+the_sixth_look : (seat_at (gate_after (bounds two) five (Look 1 ∷ [])) 1).worn ≡ (0, 5) ∷ []
+the_sixth_look = refl
+
+-- and leaves its reader out
+still_out : (seat_at (gate_after (bounds two) five (Look 1 ∷ [])) 1).stage ≡ Out
+still_out = refl
+
+-- the view of the reader that was given back is gone, and so is its seat
+the_views_after : views_of two (gate_after (bounds two) (fresh {M = ℕ} (bounds two)) (SeatOut ∷ SeatOut ∷ SeatBack 0 ∷ []))
+    ≡ view.Author two (gate_after (bounds two) (fresh {M = ℕ} {I = ℕ} (bounds two)) (SeatOut ∷ SeatOut ∷ SeatBack 0 ∷ [])).author
+    ∷ view.Gone ∷ view.Reader two (given Out []) ∷ []
+the_views_after = refl
+
+-- ---- a word through three pages: address 0 of the tree whose top page is page 1, with one reader
+
+-- the reader is inside root 1
+abbrev inside : Gate ℕ ℕ
+inside = gate_after small start (filled_and_published ++ SeatOut ∷ Look 0 ∷ Enter 0 ∷ [])
+
+-- each load is of one word: the root's top page, and word 0 of pages 1, 2 and 3
+the_top_is_word_6 : word_of (access_of small inside (Read 0 Top)) ≡ 6
+the_top_is_word_6 = refl
+
+it_is_page_1 : found (access_of small inside (Read 0 Top)) (words_of inside) ≡ 1
+it_is_page_1 = refl
+
+page_1_begins_at_522 : word_of (access_of small inside (Read 0 (Page 1 0))) ≡ 522
+page_1_begins_at_522 = refl
+
+it_leads_to_page_2 : found (access_of small inside (Read 0 (Page 1 0))) (words_of inside) ≡ 2
+it_leads_to_page_2 = refl
+
+and_on_to_page_3 : found (access_of small inside (Read 0 (Page 2 0))) (words_of inside) ≡ 3
+and_on_to_page_3 = refl
+
+which_has_the_word : found (access_of small inside (Read 0 (Page 3 0))) (words_of inside) ≡ 1
+which_has_the_word = refl

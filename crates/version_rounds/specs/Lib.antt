@@ -1,0 +1,2 @@
+-- What the author keeps from round to round.
+pub mod Chains
