@@ -1,0 +1,6 @@
+mod WordBits
+mod OpenPlaces
+mod Undo
+mod Counting
+mod Cells
+mod Shown
