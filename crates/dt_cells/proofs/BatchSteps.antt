@@ -13,7 +13,7 @@ use Rattle.dt_definitions.specs.Program.{Program, empty_program}
 use Rattle.dt_scratch.specs.CellLaws.{UnderstoodCells}
 use Rattle.dt_scratch.specs.declared.reply.Change.{Change}
 use Rattle.dt_cells.specs.Regions.{class_numbers, selector_at, place_of}
-use Rattle.dt_cells.specs.Held.{Held, none_held, after, is_changed_place}
+use Rattle.dt_cells.specs.Held.{Held, none_held, held_after, is_changed_place}
 use Rattle.dt_cells.specs.HeldLaws.{by_cases, if_true, if_false}
 use Rattle.dt_cells.specs.Kind.{Kind, IsLawful, sets, Stay}
 use Rattle.dt_cells.specs.Standing.{CanStage}
@@ -82,8 +82,8 @@ pub stays : (k : Kind) (l : IsLawful k) (understood : UnderstoodCells) (x w z : 
 stays k l understood x w z held changes old new steps sh = rest_stays understood k l held changes x z sh (is_rest k l x w z changes old new steps)
 
 pub followed : (k : Kind) (l : IsLawful k) (understood : UnderstoodCells) (before now : Reading → Held → Type 0) (low : ℕ) (x w z : Reading) (held : Held) (changes : List Change) (old new : Program)
-    → Lawful new → Steps k x w z changes old new → CanFollow k before low x held changes old new → k.shows x held → k.places x held changes z → now z (after held changes)
-    → IsTableOf k now low z (after held changes) new
+    → Lawful new → Steps k x w z changes old new → CanFollow k before low x held changes old new → k.shows x held → k.places x held changes z → now z (held_after held changes)
+    → IsTableOf k now low z (held_after held changes) new
 followed k l understood before now low x w z held changes old new lawful steps can sh pl standing = record {
   standing = standing;
   tuples = tuples_after understood low k.arities old new held changes lawful can.table.tuples can.differences;

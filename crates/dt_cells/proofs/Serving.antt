@@ -16,7 +16,7 @@ use Rattle.dt_scratch.specs.declared.reply.Answer.TheVariants.{Method, NotUnders
 use Rattle.dt_scratch.specs.declared.reply.Reply.TheVariants.{NoSelector, WrongArity, NoClass, Answered}
 use Rattle.dt_scratch.specs.declared.reply.Change.{Change}
 use Rattle.dt_cells.specs.Regions.{class_numbers, selector_numbers, selector_at, place_of}
-use Rattle.dt_cells.specs.Held.{Held, IsHeld, IsInRange, after, HasArityOf, is_changed}
+use Rattle.dt_cells.specs.Held.{Held, IsHeld, IsInRange, held_after, HasArityOf, is_changed}
 use Rattle.dt_cells.specs.HeldLaws.{by_cases, if_true, if_false, same_query, after_keeps, unchanged_after, changed_place}
 use Rattle.dt_cells.specs.Kind.{Kind, sets, IsLawful}
 use Rattle.dt_cells.specs.Find.{arity_read, is_class_read, first_unread, head_by}
@@ -148,12 +148,12 @@ serves low k p x limits heads answers q least most =
 -- ---- what is held after the differences
 
 after_cell : (held : Held) (new : Program) (changes : List Change) (q : Query) → All (λ change. change.answer ≡ cell new change.query) changes
-    → (list_any (λ change. is_same_query change.query q) changes ≡ false → held q ≡ cell new q) → after held changes q ≡ cell new q
+    → (list_any (λ change. is_same_query change.query q) changes ≡ false → held q ≡ cell new q) → held_after held changes q ≡ cell new q
 after_cell held new [] q cells rest = rest refl
 after_cell held new (c ∷ cs) q cells rest = by_cases (is_same_query c.query q)
-    (λ t. if_true (is_same_query c.query q) c.answer (after held cs q) t
+    (λ t. if_true (is_same_query c.query q) c.answer (held_after held cs q) t
     ∙ All-head (λ change. change.answer ≡ cell new change.query) c cs cells ∙ ap (cell new) (same_query c.query q t))
-    (λ f. if_false (is_same_query c.query q) c.answer (after held cs q) f
+    (λ f. if_false (is_same_query c.query q) c.answer (held_after held cs q) f
     ∙ after_cell held new cs q (All-tail (λ change. change.answer ≡ cell new change.query) c cs cells)
     (λ n. rest (rw f n)))
 
@@ -163,10 +163,10 @@ tuples_after understood low high old new held changes lawful tuples diff = recor
   none = λ q h. let a = arities q h in (((understood new lawful q).0 (λ e. h (now q a.0 a.1 ∙ e))).arity_fits, a.0, a.1);
 }
   where
-    now : (q : Query) → low ≤ arity_of_query q → arity_of_query q ≤ high → after held changes q ≡ cell new q
+    now : (q : Query) → low ≤ arity_of_query q → arity_of_query q ≤ high → held_after held changes q ≡ cell new q
     now q least most = after_cell held new changes q diff.cells (λ n. tuples.cells q least most ∙ diff.all q least most n)
 
-    arities : (q : Query) → IsHeld (after held changes) q → (low ≤ arity_of_query q) × (arity_of_query q ≤ high)
+    arities : (q : Query) → IsHeld (held_after held changes) q → (low ≤ arity_of_query q) × (arity_of_query q ≤ high)
     arities q h = after_keeps (λ r. (low ≤ arity_of_query r) × (arity_of_query r ≤ high)) held changes
         (λ r g. let t = tuples.none r g in (t.1, t.2)) diff.arities q h
 
@@ -186,8 +186,8 @@ module _ (understood : UnderstoodCells) (k : Kind) (l : IsLawful k) where
 
   pub serves_after : ServesAfter k
   serves_after low old new held changes x z y some lawful tuples diff sh able pl stay same heads lacking =
-      shown_serves low new (after held changes) y some lawful (tuples_after understood low k.arities old new held changes lawful tuples diff)
-      (l.shown_elsewhere z y (after held changes) (l.shown_after low x z held changes sh some able pl stay) same) heads lacking
+      shown_serves low new (held_after held changes) y some lawful (tuples_after understood low k.arities old new held changes lawful tuples diff)
+      (l.shown_elsewhere z y (held_after held changes) (l.shown_after low x z held changes sh some able pl stay) same) heads lacking
 
   no_cell : (s : ℕ) → s < selector_numbers → k.owns (place_of s) ≡ false
   no_cell s below = by_cases (k.owns (place_of s))
@@ -205,7 +205,7 @@ module _ (understood : UnderstoodCells) (k : Kind) (l : IsLawful k) where
       (λ p. elim (l.marks x z held changes s sh pl p t) [ inl m ↦ absurd (unplaced m.0) | inr m ↦ m.1 ])
       (λ n. rest s below (or_from (k.owns (place_of s)) _ (no_cell s below) (rw n refl)) ∙ none s below (l.no_places n held s)))
       (λ u. rest s below (unset changes s below u)
-      ∙ none s below (λ q. unplaced (l.placed_by_own held (after held changes) s (λ r h. sym (unchanged_after held changes s u r h)) q)))
+      ∙ none s below (λ q. unplaced (l.placed_by_own held (held_after held changes) s (λ r h. sym (unchanged_after held changes s u r h)) q)))
 
   pub rest_stays : RestStays k
   rest_stays held changes x z sh rest s u placed = rest s below (unset changes s below u)

@@ -5,7 +5,7 @@ use Rattle.dt_definitions.specs.Program.{Program, empty_program}
 use Rattle.dt_scratch.specs.Query.{Query}
 use Rattle.dt_scratch.specs.declared.reply.Answer.TheVariants.{Method, NotUnderstood, Ambiguous}
 use Rattle.dt_scratch.specs.declared.reply.Change.{Change}
-use Rattle.dt_cells.specs.Held.{none_held, after, is_changed, is_changed_place}
+use Rattle.dt_cells.specs.Held.{none_held, held_after, is_changed, is_changed_place}
 use Rattle.dt_cells.specs.Heads.{class_word, head_word, with_heads}
 
 abbrev sent : ℕ → List ℕ → Query
@@ -15,16 +15,16 @@ sent selector classes = record { selector = selector; classes = classes }
 abbrev two_changes : List Change
 two_changes = record { query = sent 3 (1 ∷ []); answer = Method 7 } ∷ record { query = sent 3 (2 ∷ []); answer = Ambiguous } ∷ []
 
-the_first_is_held : after none_held two_changes (sent 3 (1 ∷ [])) ≡ Method 7
+the_first_is_held : held_after none_held two_changes (sent 3 (1 ∷ [])) ≡ Method 7
 the_first_is_held = refl
 
-the_second_is_held : after none_held two_changes (sent 3 (2 ∷ [])) ≡ Ambiguous
+the_second_is_held : held_after none_held two_changes (sent 3 (2 ∷ [])) ≡ Ambiguous
 the_second_is_held = refl
 
-another_is_not : after none_held two_changes (sent 3 (1 ∷ 2 ∷ [])) ≡ NotUnderstood
+another_is_not : held_after none_held two_changes (sent 3 (1 ∷ 2 ∷ [])) ≡ NotUnderstood
 another_is_not = refl
 
-taken_out_again : after (after none_held two_changes) (record { query = sent 3 (1 ∷ []); answer = NotUnderstood } ∷ []) (sent 3 (1 ∷ [])) ≡ NotUnderstood
+taken_out_again : held_after (held_after none_held two_changes) (record { query = sent 3 (1 ∷ []); answer = NotUnderstood } ∷ []) (sent 3 (1 ∷ [])) ≡ NotUnderstood
 taken_out_again = refl
 
 the_selector_has_a_change : is_changed two_changes 3 ≡ true

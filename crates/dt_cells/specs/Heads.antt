@@ -1,8 +1,11 @@
 -- The class words and selector words of a program.
-use Rattle.std.specs.Prelude.{◌≡◌, ℕ, ◌-◌, ◌<◌, ◌==◌, ◌&&◌, nat_lt, nat_le, if◌then◌else◌, unwrap_or}
+use Rattle.std.specs.Prelude.{◌≡◌, ℕ, ◌-◌, ◌<◌, ◌==◌, ◌&&◌, nat_lt, nat_le, Bool, false, if◌then◌else◌, List, unwrap_or}
+use Rattle.std.specs.List.{list_any}
 use Rattle.dt_graph.specs.Graph.{is_live}
 use Rattle.dt_pages.specs.Reading.{Reading}
 use Rattle.dt_definitions.specs.Program.{Program, arity_of}
+use Rattle.dt_definitions.specs.declared.edit.Edit.{Edit}
+use Rattle.dt_definitions.specs.declared.edit.Edit.TheVariants.{AddClass, DropClass, Link, Unlink, AddSelector, DropSelector, Define, Undefine}
 use Rattle.dt_cells.specs.Regions.{class_numbers, selector_numbers, selector_at}
 
 -- a class's word: 1 where it is live
@@ -28,3 +31,18 @@ head_word p address =
 abbrev pub with_heads : Program → Program → Reading → Reading
 with_heads old new x address =
     if head_word old address == head_word new address then x address else head_word new address
+
+-- whether the word at the address is that of the class or the selector that the edit adds or drops
+abbrev pub sets_head : ℕ → Edit → Bool
+sets_head address (AddClass class parents) = address == class
+sets_head address (DropClass class) = address == class
+sets_head address (Link class parent) = false
+sets_head address (Unlink class parent) = false
+sets_head address (AddSelector selector arity) = address == selector_at selector
+sets_head address (DropSelector selector) = address == selector_at selector
+sets_head address (Define selector classes body) = false
+sets_head address (Undefine selector classes) = false
+
+-- whether it is so for one of the edits
+abbrev pub sets_head_any : ℕ → List Edit → Bool
+sets_head_any address edits = list_any (sets_head address) edits

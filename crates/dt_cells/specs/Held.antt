@@ -21,9 +21,9 @@ abbrev pub IsHeld : Held → Query → Type 0
 IsHeld held query = held query ≢ NotUnderstood
 
 -- the changes put into what is held
-abbrev pub after : Held → List Change → Held
-after held [] query = held query
-after held (change ∷ changes) query = if is_same_query change.query query then change.answer else after held changes query
+abbrev pub held_after : Held → List Change → Held
+held_after held [] query = held query
+held_after held (change ∷ changes) query = if is_same_query change.query query then change.answer else held_after held changes query
 
 -- the held queries of a selector have one arity
 abbrev pub HasOneArity : Held → Type 0
@@ -78,5 +78,5 @@ pub record IsStageableChange (low high : ℕ) (change : Change) : Type 0 where
 pub record IsStageable (low high : ℕ) (held : Held) (changes : List Change) : Type 0 where
   pub ascending : IsStrictlySortedBy (λ a b. query_order a.query b.query) changes
   pub each : All (IsStageableChange low high) changes
-  pub one_arity : HasOneArity (after held changes)
-  pub few_rows : HasFewRows most_rows (after held changes)
+  pub one_arity : HasOneArity (held_after held changes)
+  pub few_rows : HasFewRows most_rows (held_after held changes)

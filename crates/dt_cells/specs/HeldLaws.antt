@@ -7,7 +7,7 @@ use lib.Pointwise.{pointwise}
 use Rattle.dt_scratch.specs.Query.{Query, arity_of_query, is_same_query}
 use Rattle.dt_scratch.specs.declared.reply.Change.{Change}
 use Rattle.dt_cells.specs.Regions.{place_of}
-use Rattle.dt_cells.specs.Held.{Held, IsHeld, HasBodyInRange, after, IsStageableChange, is_changed, is_changed_place}
+use Rattle.dt_cells.specs.Held.{Held, IsHeld, HasBodyInRange, held_after, IsStageableChange, is_changed, is_changed_place}
 
 pub by_cases : {G : Type 0} (b : Bool) → (b ≡ true → G) → (b ≡ false → G) → G
 by_cases true f g = f refl
@@ -49,19 +49,19 @@ same_query a b e =
 
 -- what holds of held queries and of those of changes holds of the queries held after
 pub after_keeps : (P : Query → Type 0) (held : Held) (changes : List Change) → ((q : Query) → IsHeld held q → P q)
-    → All (λ change. P change.query) changes → (q : Query) → IsHeld (after held changes) q → P q
+    → All (λ change. P change.query) changes → (q : Query) → IsHeld (held_after held changes) q → P q
 after_keeps P held [] before each q h = before q h
 after_keeps P held (c ∷ cs) before each q h = by_cases (is_same_query c.query q)
     (λ t. subst P (same_query c.query q t) (All-head (λ change. P change.query) c cs each))
     (λ f. after_keeps P held cs before (All-tail (λ change. P change.query) c cs each) q
-    (λ e. h (if_false (is_same_query c.query q) c.answer (after held cs q) f ∙ e)))
+    (λ e. h (if_false (is_same_query c.query q) c.answer (held_after held cs q) f ∙ e)))
 
 -- the bodies of answers stay in their range
 pub body_after : (low high : ℕ) (held : Held) (changes : List Change) → ((q : Query) → HasBodyInRange (held q)) → All (IsStageableChange low high) changes
-    → (q : Query) → HasBodyInRange (after held changes q)
+    → (q : Query) → HasBodyInRange (held_after held changes q)
 body_after low high held [] before each q = before q
 body_after low high held (c ∷ cs) before each q =
-    elim (is_same_query c.query q) as (λ v. HasBodyInRange (if v then c.answer else after held cs q)) [
+    elim (is_same_query c.query q) as (λ v. HasBodyInRange (if v then c.answer else held_after held cs q)) [
       | true ↦ (All-head (IsStageableChange low high) c cs each).body
       | false ↦ body_after low high held cs before (All-tail (IsStageableChange low high) c cs each) q
     ]
@@ -73,11 +73,11 @@ not_same a b s e h = by_cases (is_same_query a b)
     (λ f. f)
 
 -- a selector without a change keeps its answers
-pub unchanged_after : (held : Held) (changes : List Change) (s : ℕ) → is_changed changes s ≡ false → (q : Query) → q.selector ≡ s → after held changes q ≡ held q
+pub unchanged_after : (held : Held) (changes : List Change) (s : ℕ) → is_changed changes s ≡ false → (q : Query) → q.selector ≡ s → held_after held changes q ≡ held q
 unchanged_after held [] s e q h = refl
 unchanged_after held (change ∷ changes) s e q h =
     let parts = or_parts (change.query.selector == s) (is_changed changes s) e in
-    if_false (is_same_query change.query q) change.answer (after held changes q) (not_same change.query q s parts.0 h)
+    if_false (is_same_query change.query q) change.answer (held_after held changes q) (not_same change.query q s parts.0 h)
     ∙ unchanged_after held changes s parts.1 q h
 
 same_place : (a s : ℕ) → (place_of a == place_of s) ≡ (a == s)

@@ -4,7 +4,7 @@ use Rattle.dt_pages.specs.Reading.{Reading, blank}
 use Rattle.dt_scratch.specs.Query.{Query, arity_of_query}
 use Rattle.dt_scratch.specs.declared.reply.Answer.{Answer}
 use Rattle.dt_scratch.specs.declared.reply.Change.{Change}
-use Rattle.dt_cells.specs.Held.{Held, none_held, IsHeld, IsInRange, after, HasArityOf, IsStageable, is_changed, is_changed_place}
+use Rattle.dt_cells.specs.Held.{Held, none_held, IsHeld, IsInRange, held_after, HasArityOf, IsStageable, is_changed, is_changed_place}
 use Rattle.dt_cells.specs.Regions.{place_of, IsCell}
 
 pub record Kind : Type 1 where
@@ -60,14 +60,14 @@ pub record IsLawful (k : Kind) : Type 0 where
   pub no_places : k.has_places ≡ false → (held : Held) (s : ℕ) → k.placed held s → ⊥
   -- placing
   pub marks : (x y : Reading) (held : Held) (changes : List Change) (s : ℕ) → k.shows x held → k.places x held changes y
-      → k.has_places ≡ true → is_changed changes s ≡ true → IsMarked k (after held changes) y s
+      → k.has_places ≡ true → is_changed changes s ≡ true → IsMarked k (held_after held changes) y s
   pub placed_from : (x z y : Reading) (held : Held) (changes : List Change) → SameFor k held x z → k.places x held changes y → k.places z held changes y
   pub placed_at_set : (x y z : Reading) (held : Held) (changes : List Change) → k.places x held changes y
       → ((address : ℕ) → sets k changes address ≡ true → y address ≡ z address) → k.places x held changes z
   pub determined : (x y z : Reading) (held : Held) (changes : List Change) → k.shows x held → k.places x held changes y → k.places x held changes z
       → (address : ℕ) → sets k changes address ≡ true → y address ≡ z address
   pub shown_after : (low : ℕ) (x y : Reading) (held : Held) (changes : List Change) → k.shows x held → 1 ≤ low → IsStageable low k.arities held changes
-      → k.places x held changes y → Stay k held changes x y → k.shows y (after held changes)
+      → k.places x held changes y → Stay k held changes x y → k.shows y (held_after held changes)
   -- the count of used cells
   pub used : (x : Reading) (held : Held) (address : ℕ) → k.shows x held → k.owns address ≡ true → x address ≢ 0
       → (q : Query) × (n : ℕ) × IsHeld held q × (0 < n) × (n ≤ arity_of_query q) × (k.way x q n ≡ address)

@@ -8,7 +8,7 @@ use Rattle.dt_scratch.specs.Query.{Query, arity_of_query, is_same_query}
 use Rattle.dt_scratch.specs.Resolve.{reply, cell}
 use Rattle.dt_scratch.specs.declared.reply.Change.{Change}
 use Rattle.dt_cells.specs.Regions.{selector_numbers, place_of}
-use Rattle.dt_cells.specs.Held.{Held, IsHeld, after, IsStageable}
+use Rattle.dt_cells.specs.Held.{Held, IsHeld, held_after, IsStageable}
 use Rattle.dt_cells.specs.Kind.{Kind, sets, SameFor, Stay}
 use Rattle.dt_cells.specs.Find.{found}
 use Rattle.dt_cells.specs.Heads.{HasHeads}
@@ -41,7 +41,7 @@ pub record AreDifferences (low high : ℕ) (old new : Program) (changes : List C
 -- What is held after the differences of two programs is what the new one, a lawful program, understands.
 abbrev pub TuplesFollow : Type 0
 TuplesFollow = (low high : ℕ) (old new : Program) (held : Held) (changes : List Change) → Lawful new
-    → AreTuples low high old held → AreDifferences low high old new changes → AreTuples low high new (after held changes)
+    → AreTuples low high old held → AreDifferences low high old new changes → AreTuples low high new (held_after held changes)
 
 -- Where a reading shows the understood tuples of a program, has its class words and selector words, and has no stray
 -- place word, it serves the program.
@@ -60,7 +60,7 @@ abbrev pub ServesAfter : Kind → Type 0
 ServesAfter k = (low : ℕ) (old new : Program) (held : Held) (changes : List Change) (x z y : Reading) → 1 ≤ low → Lawful new
     → AreTuples low k.arities old held → AreDifferences low k.arities old new changes
     → k.shows x held → IsStageable low k.arities held changes → k.places x held changes z → Stay k held changes x z
-    → SameFor k (after held changes) z y → HasHeads new y → NoStray low k new (after held changes) y → Serves low k new y
+    → SameFor k (held_after held changes) z y → HasHeads new y → NoStray low k new (held_after held changes) y → Serves low k new y
 
 -- the place words that the placing of changes doesn't set are the same in both
 abbrev pub IsRest : Kind → List Change → Reading → Reading → Type 0
@@ -70,7 +70,7 @@ IsRest k changes x z =
 -- Where no selector without a place had a place word, none has one after the changes.
 abbrev pub NoneIsStrayAfter : Kind → Type 0
 NoneIsStrayAfter k = (held : Held) (changes : List Change) (x z : Reading) → k.shows x held → k.places x held changes z
-    → IsRest k changes x z → NoneIsStray k held x → NoneIsStray k (after held changes) z
+    → IsRest k changes x z → NoneIsStray k held x → NoneIsStray k (held_after held changes) z
 
 -- Where of the place words only those that may be set are others, the place words of placed selectors without a change stay.
 abbrev pub RestStays : Kind → Type 0

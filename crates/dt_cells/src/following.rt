@@ -1,14 +1,15 @@
-ghost use Rattle.std.specs.Prelude.{◌≡◌, ◌≤◌, IfOk, OnOk, OnErr};
+ghost use Rattle.std.specs.Prelude.{◌≡◌, ◌≤◌, Ok, IfOk, OnOk, OnErr};
 ghost use Rattle.dt_pages.specs.Reading.{Reading};
 ghost use Rattle.dt_pages.specs.Image.{look_up};
 ghost use Rattle.dt_definitions.specs.Program.{empty_program};
-ghost use Rattle.dt_cells.specs.Held.{Held, none_held, after};
+ghost use Rattle.dt_definitions.specs.Step.{step_batch};
+ghost use Rattle.dt_cells.specs.Held.{Held, none_held, held_after};
 ghost use Rattle.dt_cells.specs.Serving.{Serves};
 ghost use Rattle.dt_cells.specs.Following.{IsTableOf, CanFollow};
 
-use crate::head_words::heads;
+use crate::head_words::heads_of_batch;
 use crate::kind::TableKind;
-use dt_definitions::Program;
+use dt_definitions::{Batch, Program};
 use dt_graph::NoMemory;
 use dt_pages::{Draft, Tree, page_zero_is_empty};
 use dt_scratch::{Change, law_of_cells};
@@ -28,19 +29,23 @@ pub fn first_table<K: TableKind>(alloc: Global, least: u8) -> Result<(K, Tree), 
 
 /// The table follows a batch: it was one of the old program, and is one of the new. After want of memory the image is as
 /// it was, and the value stands for what it stood for, so that the table is still one of the old program.
+///
+/// It costs what the batch's edits and the staging of its changes cost, and the laying of the words that they set.
 pub fn follow<K: TableKind>(
     alloc: Global,
     kind: &mut K,
     tree: &mut Tree,
     changes: &[Change],
     old: &Program,
+    batch: &Batch,
     new: &Program,
 ) -> Result<(), NoMemory>
-    requires { (held : Held) × CanFollow K.kind (K.stands kind.old) (K.low kind.old) (look_up tree.old) held changes.now old.now new.now }
+    requires batch { step_batch old.now batch.now ≡ Ok new.now }
+    requires table { (held : Held) × CanFollow K.kind (K.stands kind.old) (K.low kind.old) (look_up tree.old) held changes.now old.now new.now }
     ensures low { K.low kind.new ≡ K.low kind.old }
     ensures table { OnOk result ((held : Held)
         → CanFollow K.kind (K.stands kind.old) (K.low kind.old) (look_up tree.old) held changes.now old.now new.now
-        → IsTableOf K.kind (K.stands kind.new) (K.low kind.old) (look_up tree.new) (after held changes.now) new.now) }
+        → IsTableOf K.kind (K.stands kind.new) (K.low kind.old) (look_up tree.new) (held_after held changes.now) new.now) }
     ensures serves { OnOk result (Serves (K.low kind.old) K.kind new.now (look_up tree.new)) }
     ensures image { OnErr result (tree.new ≡ tree.old) }
     ensures stands { OnErr result ((x : Reading) (held : Held) → K.stands kind.old x held → K.stands kind.new x held) }
@@ -48,7 +53,7 @@ pub fn follow<K: TableKind>(
     new.law();
     law_of_cells();
     let mut draft = Draft::new(alloc);
-    heads(&mut draft, old, new)?;
+    heads_of_batch(&mut draft, old, batch, new)?;
     let staged = kind.stage(tree, &mut draft, changes)?;
     tree.overlay(draft)?;
     kind.settle(staged);

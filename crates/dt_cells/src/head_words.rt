@@ -1,11 +1,12 @@
-ghost use Rattle.std.specs.Prelude.{◌≡◌, ◌<◌, ◌+◌, ◌==◌, ◌^◌, ◌&&◌, nat_lt, nat_le, ℕ, OnOk, if◌then◌else◌};
+ghost use Rattle.std.specs.Prelude.{◌≡◌, ◌<◌, ◌+◌, ◌==◌, ◌^◌, ◌&&◌, nat_lt, nat_le, ℕ, length, slice_get, Some, Ok, OnOk, if◌then◌else◌};
 ghost use Rattle.dt_pages.specs.Reading.{Reading};
 ghost use Rattle.dt_pages.specs.Draft.{laid_over};
 ghost use Rattle.dt_cells.specs.Regions.{selector_at};
-ghost use Rattle.dt_cells.specs.Heads.{HasHeads, class_word, selector_word, with_heads};
+ghost use Rattle.dt_definitions.specs.Step.{step_batch};
+ghost use Rattle.dt_cells.specs.Heads.{HasHeads, class_word, selector_word, sets_head, with_heads};
 
 use crate::regions::selector_address;
-use dt_definitions::Program;
+use dt_definitions::{Batch, Edit, Program, batches_are_their_edits};
 use dt_graph::{CLASSES, ClassNo, NoMemory};
 use dt_pages::Draft;
 use dt_selectors::{SELECTORS, SelNo};
@@ -111,4 +112,57 @@ pub fn heads(draft: &mut Draft, old: &Program, new: &Program) -> Result<(), NoMe
 {
     class_heads(draft, old, new)?;
     selector_heads(draft, old, new)
+}
+
+// Sets the word of the class or the selector that the edit adds or drops, where the two programs have different ones.
+fn head_of_edit(
+    draft: &mut Draft,
+    edit: &Edit,
+    old: &Program,
+    new: &Program,
+) -> Result<(), NoMemory>
+    ensures { OnOk result ((base : Reading) (address : ℕ) → laid_over draft.new base address
+        ≡ (if sets_head address edit.now then with_heads old.now new.now (laid_over draft.old base) address else laid_over draft.old base address)) }
+{
+    match edit {
+        Edit::AddClass { class, .. } | Edit::DropClass { class } => {
+            class_head(draft, old, new, class.number())
+        }
+        Edit::AddSelector { selector, .. } | Edit::DropSelector { selector } => {
+            selector_head(draft, old, new, selector.number())
+        }
+        _ => Ok(()),
+    }
+}
+
+// The edit at this place, from 0.
+fn edit_at(batch: &Batch, place: u32) -> &Edit
+    requires { place < length batch.now }
+    ensures { slice_get batch.now place ≡ Some result.now }
+{
+    let _ = batch.law();
+    match batch.edit(place + 1) {
+        Some(edit) => edit,
+        None => unreachable!(),
+    }
+}
+
+/// As [`heads`], where the new program is the old one after the batch: it asks both programs for the classes and the
+/// selectors alone that an edit of the batch adds or drops.
+pub fn heads_of_batch(
+    draft: &mut Draft,
+    old: &Program,
+    batch: &Batch,
+    new: &Program,
+) -> Result<(), NoMemory>
+    requires { step_batch old.now batch.now ≡ Ok new.now }
+    ensures words { OnOk result ((base : Reading) (address : ℕ) → laid_over draft.new base address
+        ≡ with_heads old.now new.now (laid_over draft.old base) address) }
+    ensures heads { OnOk result ((base : Reading) → HasHeads old.now (laid_over draft.old base) → HasHeads new.now (laid_over draft.new base)) }
+{
+    batches_are_their_edits();
+    for place in 0..batch.len() {
+        head_of_edit(draft, edit_at(batch, place), old, new)?;
+    }
+    Ok(())
 }

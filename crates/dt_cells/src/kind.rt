@@ -4,7 +4,7 @@ ghost use Rattle.dt_pages.specs.Image.{look_up};
 ghost use Rattle.dt_pages.specs.Draft.{laid_over};
 ghost use Rattle.dt_scratch.specs.Query.{arity_of_query};
 ghost use Rattle.dt_scratch.specs.declared.reply.Change.{Change};
-ghost use Rattle.dt_cells.specs.Held.{Held, IsInRange, none_held, after};
+ghost use Rattle.dt_cells.specs.Held.{Held, IsInRange, none_held, held_after};
 ghost use Rattle.dt_cells.specs.Kind.{Kind, IsLawful, sets, Stay};
 ghost use Rattle.dt_cells.specs.Standing.{IsStanding, CanStage};
 ghost use Rattle.dt_cells.specs.Find.{found};
@@ -97,7 +97,7 @@ pub trait TableKind: Send + Sync + Drop {
         requires { (x : Reading) × (held : Held) × (changes : List Change) × stands self.old x held × follows self.old staged x held changes }
         ensures low { low self.new ≡ low self.old }
         ensures stands { (x : Reading) (held : Held) (changes : List Change) (y : Reading) → stands self.old x held → follows self.old staged x held changes
-            → kind.places x held changes y → Stay kind held changes x y → stands self.new y (after held changes) };
+            → kind.places x held changes y → Stay kind held changes x y → stands self.new y (held_after held changes) };
 
     ghost laws: { IsLawful kind };
 

@@ -17,7 +17,7 @@ use Rattle.dt_scratch.specs.Query.{Query, arity_of_query, is_same_query, query_o
 use Rattle.dt_scratch.specs.declared.reply.Answer.{Answer}
 use Rattle.dt_scratch.specs.declared.reply.Change.{Change}
 use Rattle.dt_cells.specs.Cell.{cell_word}
-use Rattle.dt_cells.specs.Held.{Held, after, IsStageableChange}
+use Rattle.dt_cells.specs.Held.{Held, held_after, IsStageableChange}
 use Rattle.dt_cells.specs.HeldLaws.{by_cases, if_true, if_false, same_query}
 use Rattle.dt_sti.specs.Sti.{cell_at, query_at, owns, tag_of, way_by, cell_of, word_of, AreCells}
 use Rattle.dt_sti.specs.StiLaws.{is_owned, query_of, cell_back}
@@ -92,16 +92,16 @@ apart c d ds all same = less_equal _ (sym (ap (query_order c.query) same) ∙ al
 
 -- a change whose query no other has may be put first
 first_after : (held : Held) (c : Change) (cs : List Change) (q : Query) → AllByRecursion (λ e. query_order c.query e.query ≡ Less) cs
-    → after (one_after held c) cs q ≡ after held (c ∷ cs) q
+    → held_after (one_after held c) cs q ≡ held_after held (c ∷ cs) q
 unfolding one_after
 first_after held c [] q all = refl
 first_after held c (d ∷ ds) q all = by_cases (is_same_query d.query q)
-    (λ t. if_true (is_same_query d.query q) d.answer (after (one_after held c) ds q) t
-    ∙ sym (if_false (is_same_query c.query q) c.answer (after held (d ∷ ds) q) (other t)
-    ∙ if_true (is_same_query d.query q) d.answer (after held ds q) t))
-    (λ f. if_false (is_same_query d.query q) d.answer (after (one_after held c) ds q) f
+    (λ t. if_true (is_same_query d.query q) d.answer (held_after (one_after held c) ds q) t
+    ∙ sym (if_false (is_same_query c.query q) c.answer (held_after held (d ∷ ds) q) (other t)
+    ∙ if_true (is_same_query d.query q) d.answer (held_after held ds q) t))
+    (λ f. if_false (is_same_query d.query q) d.answer (held_after (one_after held c) ds q) f
     ∙ first_after held c ds q all.1
-    ∙ ap (λ (v : Answer). if is_same_query c.query q then c.answer else v) (sym (if_false (is_same_query d.query q) d.answer (after held ds q) f)))
+    ∙ ap (λ (v : Answer). if is_same_query c.query q then c.answer else v) (sym (if_false (is_same_query d.query q) d.answer (held_after held ds q) f)))
   where
     other : is_same_query d.query q ≡ true → is_same_query c.query q ≡ false
     other t = by_cases (is_same_query c.query q)
@@ -140,7 +140,7 @@ put_cells held c y able cells address own =
         back address own = cell_back address own
 
 pub laid_cells : (held : Held) (changes : List Change) (y : Reading) → IsStrictlySortedBy (λ a b. query_order a.query b.query) changes
-    → All (IsStageableChange 1 1) changes → AreCells held y → AreCells (after held changes) (laid changes y)
+    → All (IsStageableChange 1 1) changes → AreCells held y → AreCells (held_after held changes) (laid changes y)
 laid_cells held [] y sorted each cells = cells
 laid_cells held (c ∷ cs) y sorted each cells =
     let order : Change → Change → Ordering = λ a b. query_order a.query b.query in

@@ -7,7 +7,7 @@ use Rattle.dt_scratch.specs.declared.reply.Answer.TheVariants.{NotUnderstood}
 use Rattle.dt_scratch.specs.declared.reply.Change.{Change}
 use Rattle.dt_cells.specs.Regions.{class_numbers, selector_numbers, single_cells}
 use Rattle.dt_cells.specs.Cell.{cell_word, answer_of_word}
-use Rattle.dt_cells.specs.Held.{Held, IsHeld, IsInRange, HasBodyInRange, after}
+use Rattle.dt_cells.specs.Held.{Held, IsHeld, IsInRange, HasBodyInRange, held_after}
 use Rattle.dt_cells.specs.Kind.{Kind}
 
 -- the cell of a selector and a class
@@ -62,7 +62,7 @@ sti = record {
   placed = λ held s. ⊥;
   way = λ x q n. way_by q.selector q.classes;
   shows = StiShows;
-  places = λ x held changes y. AreCells (after held changes) y;
+  places = λ x held changes y. AreCells (held_after held changes) y;
 }
 
 -- the cell of a change, and its word after

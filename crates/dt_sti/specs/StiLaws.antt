@@ -9,7 +9,7 @@ use Rattle.dt_scratch.specs.declared.reply.Answer.{Answer}
 use Rattle.dt_scratch.specs.declared.reply.Answer.TheVariants.{Method, NotUnderstood, Ambiguous}
 use Rattle.dt_scratch.specs.declared.reply.Change.{Change}
 use Rattle.dt_cells.specs.Cell.{cell_word, answer_of_code, answer_of_word}
-use Rattle.dt_cells.specs.Held.{Held, IsInRange, HasBodyInRange, after, IsStageable, IsStageableChange}
+use Rattle.dt_cells.specs.Held.{Held, IsInRange, HasBodyInRange, held_after, IsStageable, IsStageableChange}
 use Rattle.dt_cells.specs.HeldLaws.{by_cases, or_true, if_true, if_false, after_keeps, body_after}
 use Rattle.dt_cells.specs.Kind.{IsLawful}
 use Rattle.dt_sti.specs.Sti.{cell_at, query_at, owns, tag_of, part_by, way_by, AreCells, StiShows, sti}
@@ -101,7 +101,7 @@ ones low (c ∷ cs) some each =
     (ones low cs some (All-tail (IsStageableChange low 1) c cs each))
 
 pub shown_after : (low : ℕ) (y x : Reading) (held : Held) (changes : List Change) → StiShows x held → 1 ≤ low → IsStageable low 1 held changes
-    → AreCells (after held changes) y → StiShows y (after held changes)
+    → AreCells (held_after held changes) y → StiShows y (held_after held changes)
 shown_after low y x held changes sh some able cells = record {
   range = after_keeps IsInRange held changes sh.range (ranges low 1 changes able.each);
   one = after_keeps (λ q. arity_of_query q ≡ 1) held changes sh.one (ones low changes some able.each);

@@ -5,7 +5,7 @@ ghost use Rattle.dt_scratch.specs.Query.{arity_of_query};
 ghost use Rattle.dt_cells.specs.Held.{IsStageableChange};
 ghost use Rattle.dt_sti.specs.Sti.{cell_at, cell_of, tag_of, word_of};
 
-use dt_cells::{TableKind, answer_by_word, word_of_answer};
+use dt_cells::{ForOneClass, TableKind, answer_by_word, word_of_answer};
 use dt_graph::NoMemory;
 use dt_pages::{Draft, Tree, Words};
 use dt_scratch::{Answer, Change, Query};
@@ -121,4 +121,10 @@ impl TableKind for Sti {
     ghost standing = { sti_stands Self };
 
     ghost covers = { refl };
+}
+
+impl ForOneClass for Sti {
+    ghost use Rattle.dt_sti.specs.StiPart.{sti_is_for_one_class};
+
+    ghost for_one_class = { sti_is_for_one_class };
 }
