@@ -1,0 +1,1 @@
+-- Nothing of its own: see the definitions of the placing of rows.
