@@ -1,0 +1,4 @@
+pub mod Premises
+pub mod Listed
+pub mod Commit
+pub mod KeptSteps

@@ -1,0 +1,12 @@
+//! A program whose table follows every batch.
+#![tactic(auto)]
+
+mod commit_fault;
+mod following;
+mod laws;
+mod tabled;
+mod what_follows;
+
+pub use commit_fault::CommitFault;
+pub use laws::{commits_have_one_answer, commits_make_histories, limits_are_counted};
+pub use tabled::Tabled;
