@@ -2,7 +2,7 @@
 use Rattle.std.specs.List.{slice_get}
 use Rattle.std.proofs.Common.{◌≡◌, ℕ, zero, suc, Some, Bool, true, false, cond, List, [], ◌∷◌, ◌++◌, refl, sym, ap, subst, ◌∙◌, append-nil, append_assoc}
 use Rattle.dt_selectors.specs.Names.{same_text, with_text}
-use Rattle.dt_script.specs.NameBook.{NameBook, with_class, with_selector, with_body}
+use Rattle.dt_script.specs.NameBook.{NameBook, with_class_name, with_selector_name, with_body_name}
 use Rattle.dt_script.specs.Word.{Word, Plain, Number, Class, Selector, Body, AreTexts, text_of_word, with_word, book_after}
 use Rattle.dt_script.specs.Line.{words_of}
 use Rattle.dt_script.specs.Laws.{GrowsByLine, SpellingStays}
@@ -33,20 +33,20 @@ grew_on a b c first then = record {
 }
 
 -- with a name more
-pub grew_class : (old new : NameBook) (name : List ℕ) → new ≡ with_class old name → GrewAtEnd old new
+pub grew_class : (old new : NameBook) (name : List ℕ) → new ≡ with_class_name old name → GrewAtEnd old new
 grew_class old new name is = subst (λ b. GrewAtEnd old b) (sym is) (record { classes = first-text name old.classes; selectors = first-same old.selectors; bodies = first-same old.bodies })
 
-pub grew_selector : (old new : NameBook) (name : List ℕ) → new ≡ with_selector old name → GrewAtEnd old new
+pub grew_selector : (old new : NameBook) (name : List ℕ) → new ≡ with_selector_name old name → GrewAtEnd old new
 grew_selector old new name is = subst (λ b. GrewAtEnd old b) (sym is) (record { classes = first-same old.classes; selectors = first-text name old.selectors; bodies = first-same old.bodies })
 
-pub grew_body : (old new : NameBook) (name : List ℕ) → new ≡ with_body old name → GrewAtEnd old new
+pub grew_body : (old new : NameBook) (name : List ℕ) → new ≡ with_body_name old name → GrewAtEnd old new
 grew_body old new name is = subst (λ b. GrewAtEnd old b) (sym is) (record { classes = first-same old.classes; selectors = first-same old.selectors; bodies = first-text name old.bodies })
 
 -- with the names of words
 word-grows : (book : NameBook) (word : Word) (text : List ℕ) → GrewAtEnd book (with_word book word text)
-word-grows book (Class number) text = grew_class book (with_class book text) text refl
-word-grows book (Selector number) text = grew_selector book (with_selector book text) text refl
-word-grows book (Body number) text = grew_body book (with_body book text) text refl
+word-grows book (Class number) text = grew_class book (with_class_name book text) text refl
+word-grows book (Selector number) text = grew_selector book (with_selector_name book text) text refl
+word-grows book (Body number) text = grew_body book (with_body_name book text) text refl
 word-grows book word text = grew_not book
 
 words-grow : (book : NameBook) (words : List Word) (texts : List (List ℕ)) → GrewAtEnd book (book_after book words texts)

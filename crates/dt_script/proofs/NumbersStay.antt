@@ -8,7 +8,7 @@ use Rattle.dt_selectors.specs.declared.names.NameFault.TheVariants.{NamesFull, N
 use Rattle.dt_graph.specs.declared.limits.TheConstants.{CLASSES}
 use Rattle.dt_selectors.specs.declared.limits.TheConstants.{SELECTORS, BODIES}
 use Rattle.dt_selectors.specs.Names.{same_text, position_of, with_text}
-use Rattle.dt_script.specs.NameBook.{NameBook, with_class, number_in, is_within_limits}
+use Rattle.dt_script.specs.NameBook.{NameBook, with_class_name, number_in, is_within_limits}
 use Rattle.dt_script.specs.Numbering.{with_texts, with_classes, numbers_in, IsNumbered}
 
 -- a text is the same as itself
@@ -104,14 +104,14 @@ not_within book many = by (nat_le (length book.classes) CLASSES) refl
 
 -- a class that doesn't fit
 pub full_class : (book : NameBook) (name : List ℕ) (more : List (List ℕ)) → IsTrue (is_none (position_of name book.classes) && nat_le CLASSES (length book.classes))
-    → IsTrue (not (is_within_limits (with_classes (with_class book name) more)))
+    → IsTrue (not (is_within_limits (with_classes (with_class_name book name) more)))
 full_class book name more full =
-    not_within (with_classes (with_class book name) more) (omega (arith, full-list CLASSES name book.classes full, grow_by_all (with_text name book.classes) more))
+    not_within (with_classes (with_class_name book name) more) (omega (arith, full-list CLASSES name book.classes full, grow_by_all (with_text name book.classes) more))
 
 -- the first of two names
-pub first_stays : (old middle new : NameBook) (a b : List ℕ) (number : ℕ) → middle ≡ with_class old a → new ≡ with_class middle b → number ≡ number_in middle.classes a → number ≡ number_in new.classes a
+pub first_stays : (old middle new : NameBook) (a b : List ℕ) (number : ℕ) → middle ≡ with_class_name old a → new ≡ with_class_name middle b → number ≡ number_in middle.classes a → number ≡ number_in new.classes a
 first_stays old middle new a b number first second is =
-    is ∙ ap (λ k. number_in k.classes a) first ∙ sym (number_kept a old.classes (b ∷ [])) ∙ ap (λ k. number_in (with_class k b).classes a) (sym first) ∙ ap (λ k. number_in k.classes a) (sym second)
+    is ∙ ap (λ k. number_in k.classes a) first ∙ sym (number_kept a old.classes (b ∷ [])) ∙ ap (λ k. number_in (with_class_name k b).classes a) (sym first) ∙ ap (λ k. number_in k.classes a) (sym second)
 
 -- the result of numbering, where a fault is handed on
 pub handed_number : {T : Type 0} (old new : NameBook) (names : List (List ℕ)) (result : Result (List ℕ) NameFault) (fault : NameFault) → IsErrAnd result (λ e. e ≡ fault)
@@ -145,7 +145,7 @@ pub first_known : (a b : List ℕ) (texts : List (List ℕ)) → is_some (positi
 first_known a b texts = ap is_some (kept a b (with_text a texts) (named a texts)) ∙ named a texts
 
 -- the numbers of three and of four classes
-pub three_numbers : (old middle new : NameBook) (a b c : List ℕ) (x y z : ℕ) (numbers : List ℕ) → middle ≡ with_class (with_class old a) b → new ≡ with_class middle c
+pub three_numbers : (old middle new : NameBook) (a b c : List ℕ) (x y z : ℕ) (numbers : List ℕ) → middle ≡ with_class_name (with_class_name old a) b → new ≡ with_class_name middle c
     → x ≡ number_in middle.classes a → y ≡ number_in middle.classes b → z ≡ number_in new.classes c → numbers ≡ x ∷ y ∷ z ∷ []
     → (new ≡ with_classes old (a ∷ b ∷ c ∷ [])) × (numbers ≡ numbers_in new (a ∷ b ∷ c ∷ []))
 three_numbers old middle new a b c x y z numbers m n is_x is_y is_z are =
@@ -153,9 +153,9 @@ three_numbers old middle new a b c x y z numbers m n is_x is_y is_z are =
     let known_b : is_some (position_of b middle.classes) ≡ true = ap (λ k. is_some (position_of b k.classes)) m ∙ named b (with_text a old.classes) in
     let in_x : x ≡ number_in new.classes a = numbers_stay middle new (c ∷ []) x a n known_a is_x in
     let in_y : y ≡ number_in new.classes b = numbers_stay middle new (c ∷ []) y b n known_b is_y in
-    (n ∙ ap (λ k. with_class k c) m, cc)
+    (n ∙ ap (λ k. with_class_name k c) m, cc)
 
-pub four_numbers : (old middle new : NameBook) (a b c d : List ℕ) (x y z w : ℕ) (numbers : List ℕ) → middle ≡ with_class (with_class old a) b → new ≡ with_class (with_class middle c) d
+pub four_numbers : (old middle new : NameBook) (a b c d : List ℕ) (x y z w : ℕ) (numbers : List ℕ) → middle ≡ with_class_name (with_class_name old a) b → new ≡ with_class_name (with_class_name middle c) d
     → x ≡ number_in middle.classes a → y ≡ number_in middle.classes b → z ≡ number_in new.classes c → w ≡ number_in new.classes d → numbers ≡ x ∷ y ∷ z ∷ w ∷ []
     → (new ≡ with_classes old (a ∷ b ∷ c ∷ d ∷ [])) × (numbers ≡ numbers_in new (a ∷ b ∷ c ∷ d ∷ []))
 four_numbers old middle new a b c d x y z w numbers m n is_x is_y is_z is_w are =
@@ -163,10 +163,10 @@ four_numbers old middle new a b c d x y z w numbers m n is_x is_y is_z is_w are 
     let known_b : is_some (position_of b middle.classes) ≡ true = ap (λ k. is_some (position_of b k.classes)) m ∙ named b (with_text a old.classes) in
     let in_x : x ≡ number_in new.classes a = numbers_stay middle new (c ∷ d ∷ []) x a n known_a is_x in
     let in_y : y ≡ number_in new.classes b = numbers_stay middle new (c ∷ d ∷ []) y b n known_b is_y in
-    (n ∙ ap (λ k. with_class (with_class k c) d) m, cc)
+    (n ∙ ap (λ k. with_class_name (with_class_name k c) d) m, cc)
 
 -- one more class of those that are left
-pub parents_step : (names names' : NameBook) (name : List ℕ) (all rest : List (List ℕ)) (items : List ℕ) (number : ℕ) → names' ≡ with_class names name → number ≡ number_in names'.classes name
+pub parents_step : (names names' : NameBook) (name : List ℕ) (all rest : List (List ℕ)) (items : List ℕ) (number : ℕ) → names' ≡ with_class_name names name → number ≡ number_in names'.classes name
     → ((new : NameBook) → new ≡ with_classes names (name ∷ rest) → numbers_in new all ≡ items ++ numbers_in new (name ∷ rest))
     → (new : NameBook) → new ≡ with_classes names' rest → numbers_in new all ≡ (items ++ number ∷ []) ++ numbers_in new rest
 parents_step names names' name all rest items number is is_number so_far new new_is =

@@ -8,7 +8,7 @@ use Rattle.dt_selectors.specs.declared.limits.TheConstants.{SELECTORS, BODIES}
 use Rattle.dt_selectors.specs.Names.{position_of}
 use Rattle.dt_selectors.specs.declared.names.NameFault.{NameFault}
 use Rattle.dt_selectors.specs.declared.names.NameFault.TheVariants.{NamesFull, NoMemory}
-use Rattle.dt_script.specs.NameBook.{NameBook, with_class, with_selector, with_body, number_in, is_within_limits}
+use Rattle.dt_script.specs.NameBook.{NameBook, with_class_name, with_selector_name, with_body_name, number_in, is_within_limits}
 use Rattle.std.specs.List.{list_all}
 use Rattle.dt_selectors.specs.Names.{is_name}
 use Rattle.dt_script.specs.Numbering.{with_classes, numbers_in, IsNumbered}
@@ -69,28 +69,28 @@ many_tokens book tokens many = not_true (is_within_limits (with_tokens book toke
 
 -- and so does one that a name doesn't fit
 pub full_class : (book : NameBook) (name : List ℕ) (tokens : List Token) → IsTrue (is_none (position_of name book.classes) && nat_le CLASSES (length book.classes))
-    → IsTrue (not (is_within_limits (with_tokens (with_class book name) tokens)))
-full_class book name tokens full = not_true (is_within_limits (with_tokens (with_class book name) tokens)) (λ within.
-    omega (arith, (within_parts (with_tokens (with_class book name) tokens) within).0, (larger (with_class book name) tokens).classes, full-list CLASSES name book.classes full))
+    → IsTrue (not (is_within_limits (with_tokens (with_class_name book name) tokens)))
+full_class book name tokens full = not_true (is_within_limits (with_tokens (with_class_name book name) tokens)) (λ within.
+    omega (arith, (within_parts (with_tokens (with_class_name book name) tokens) within).0, (larger (with_class_name book name) tokens).classes, full-list CLASSES name book.classes full))
 
 pub full_selector : (book : NameBook) (name : List ℕ) (tokens : List Token) → IsTrue (is_none (position_of name book.selectors) && nat_le SELECTORS (length book.selectors))
-    → IsTrue (not (is_within_limits (with_tokens (with_selector book name) tokens)))
-full_selector book name tokens full = not_true (is_within_limits (with_tokens (with_selector book name) tokens)) (λ within.
-    omega (arith, (within_parts (with_tokens (with_selector book name) tokens) within).1, (larger (with_selector book name) tokens).selectors, full-list SELECTORS name book.selectors full))
+    → IsTrue (not (is_within_limits (with_tokens (with_selector_name book name) tokens)))
+full_selector book name tokens full = not_true (is_within_limits (with_tokens (with_selector_name book name) tokens)) (λ within.
+    omega (arith, (within_parts (with_tokens (with_selector_name book name) tokens) within).1, (larger (with_selector_name book name) tokens).selectors, full-list SELECTORS name book.selectors full))
 
 pub full_body : (book : NameBook) (name : List ℕ) (tokens : List Token) → IsTrue (is_none (position_of name book.bodies) && nat_le BODIES (length book.bodies))
-    → IsTrue (not (is_within_limits (with_tokens (with_body book name) tokens)))
-full_body book name tokens full = not_true (is_within_limits (with_tokens (with_body book name) tokens)) (λ within.
-    omega (arith, (within_parts (with_tokens (with_body book name) tokens) within).2, (larger (with_body book name) tokens).bodies, full-list BODIES name book.bodies full))
+    → IsTrue (not (is_within_limits (with_tokens (with_body_name book name) tokens)))
+full_body book name tokens full = not_true (is_within_limits (with_tokens (with_body_name book name) tokens)) (λ within.
+    omega (arith, (within_parts (with_tokens (with_body_name book name) tokens) within).2, (larger (with_body_name book name) tokens).bodies, full-list BODIES name book.bodies full))
 
 -- the names of classes, and words after them
 pub classes-tokens : (book : NameBook) (names : List (List ℕ)) (tokens : List Token) → with_tokens book (map ClassName names ++ tokens) ≡ with_tokens (with_classes book names) tokens
 classes-tokens book [] tokens = refl
-classes-tokens book (name ∷ names) tokens = classes-tokens (with_class book name) names tokens
+classes-tokens book (name ∷ names) tokens = classes-tokens (with_class_name book name) names tokens
 
 pub classes-alone : (book : NameBook) (names : List (List ℕ)) → with_tokens book (map ClassName names) ≡ with_classes book names
 classes-alone book [] = refl
-classes-alone book (name ∷ names) = classes-alone (with_class book name) names
+classes-alone book (name ∷ names) = classes-alone (with_class_name book name) names
 
 -- a fault that is handed on
 pub handed_line : {T : Type 0} (old new : NameBook) (w : Written) (result : Result Line NameFault) (fault : NameFault) → IsErrAnd result (λ e. e ≡ fault)
@@ -106,34 +106,34 @@ numbered_full old new names NamesFull numbered full = numbered
 numbered_full old new names NoMemory numbered full = absurd cc
 
 -- the classes or the body of a definition don't fit
-pub define_classes_full : (old book : NameBook) (selector : List ℕ) (names : List (List ℕ)) (tokens : List Token) → book ≡ with_selector old selector → IsTrue (not (is_within_limits (with_classes book names)))
-    → IsTrue (not (is_within_limits (with_tokens (with_selector old selector) (map ClassName names ++ tokens))))
+pub define_classes_full : (old book : NameBook) (selector : List ℕ) (names : List (List ℕ)) (tokens : List Token) → book ≡ with_selector_name old selector → IsTrue (not (is_within_limits (with_classes book names)))
+    → IsTrue (not (is_within_limits (with_tokens (with_selector_name old selector) (map ClassName names ++ tokens))))
 define_classes_full old book selector names tokens is many =
-    subst (λ (b : NameBook). IsTrue (not (is_within_limits b))) (ap (λ b. with_tokens (with_classes b names) tokens) is ∙ sym (classes-tokens (with_selector old selector) names tokens))
+    subst (λ (b : NameBook). IsTrue (not (is_within_limits b))) (ap (λ b. with_tokens (with_classes b names) tokens) is ∙ sym (classes-tokens (with_selector_name old selector) names tokens))
     (many_tokens (with_classes book names) tokens many)
 
-pub define_body_full : (old book middle : NameBook) (selector body arrow : List ℕ) (names : List (List ℕ)) → book ≡ with_selector old selector → middle ≡ with_classes book names
+pub define_body_full : (old book middle : NameBook) (selector body arrow : List ℕ) (names : List (List ℕ)) → book ≡ with_selector_name old selector → middle ≡ with_classes book names
     → IsTrue (is_none (position_of body middle.bodies) && nat_le BODIES (length middle.bodies))
-    → IsTrue (not (is_within_limits (with_tokens (with_selector old selector) (map ClassName names ++ Plain arrow ∷ BodyName body ∷ []))))
+    → IsTrue (not (is_within_limits (with_tokens (with_selector_name old selector) (map ClassName names ++ Plain arrow ∷ BodyName body ∷ []))))
 define_body_full old book middle selector body arrow names is middle_is full =
     subst (λ (b : NameBook). IsTrue (not (is_within_limits b)))
-    (ap (λ b. with_body b body) (middle_is ∙ ap (λ b. with_classes b names) is) ∙ sym (classes-tokens (with_selector old selector) names (Plain arrow ∷ BodyName body ∷ [])))
+    (ap (λ b. with_body_name b body) (middle_is ∙ ap (λ b. with_classes b names) is) ∙ sym (classes-tokens (with_selector_name old selector) names (Plain arrow ∷ BodyName body ∷ [])))
     (full_body middle body [] full)
 
 -- the parents of a class don't fit
-pub parents_full : (old book : NameBook) (class : List ℕ) (names : List (List ℕ)) → book ≡ with_class old class → IsTrue (not (is_within_limits (with_classes book names)))
-    → IsTrue (not (is_within_limits (with_tokens (with_class old class) (map ClassName names))))
+pub parents_full : (old book : NameBook) (class : List ℕ) (names : List (List ℕ)) → book ≡ with_class_name old class → IsTrue (not (is_within_limits (with_classes book names)))
+    → IsTrue (not (is_within_limits (with_tokens (with_class_name old class) (map ClassName names))))
 parents_full old book class names is many =
-    subst (λ (b : NameBook). IsTrue (not (is_within_limits b))) (ap (λ b. with_classes b names) is ∙ sym (classes-alone (with_class old class) names)) many
+    subst (λ (b : NameBook). IsTrue (not (is_within_limits b))) (ap (λ b. with_classes b names) is ∙ sym (classes-alone (with_class_name old class) names)) many
 
 -- a class with parents
-pub subclass_numbered : (old book new : NameBook) (name : List ℕ) (names : List (List ℕ)) (class : ℕ) (parents items : List ℕ) → book ≡ with_class old name → class ≡ number_in book.classes name
+pub subclass_numbered : (old book new : NameBook) (name : List ℕ) (names : List (List ℕ)) (class : ℕ) (parents items : List ℕ) → book ≡ with_class_name old name → class ≡ number_in book.classes name
     → new ≡ with_classes book names → items ≡ numbers_in new names → parents ≡ items
-    → (new ≡ with_tokens (with_class old name) (map ClassName names)) × (line.AddClass class parents ≡ line.AddClass (number_in new.classes name) (numbers_in new names))
+    → (new ≡ with_tokens (with_class_name old name) (map ClassName names)) × (line.AddClass class parents ≡ line.AddClass (number_in new.classes name) (numbers_in new names))
 subclass_numbered old book new name names class parents items is is_class new_is are same =
     let known : is_some (position_of name book.classes) ≡ true = ap (λ k. is_some (position_of name k.classes)) is ∙ named name old.classes in
     let stays : class ≡ number_in new.classes name = numbers_stay book new names class name new_is known is_class in
-    (new_is ∙ ap (λ b. with_classes b names) is ∙ sym (classes-alone (with_class old name) names), cc)
+    (new_is ∙ ap (λ b. with_classes b names) is ∙ sym (classes-alone (with_class_name old name) names), cc)
 
 -- the names of a line are names
 pub parents_are_names : (names : List (List ℕ)) → IsTrue (list_all is_name (map text_of_token (map ClassName names))) → IsTrue (list_all is_name names)

@@ -1,7 +1,7 @@
 -- Books grow at their end, so that each name keeps its number.
 use Rattle.std.specs.Prelude.{◌≡◌, ℕ, List, [], ◌∷◌, ◌++◌, codes, get_or, refl}
 use Rattle.std.proofs.Common.{ap, arith}
-use Rattle.dt_script.specs.NameBook.{NameBook, with_class, with_body}
+use Rattle.dt_script.specs.NameBook.{NameBook, with_class_name, with_body_name}
 
 -- the texts are these and some more after them
 abbrev pub AreFirst : List (List ℕ) → List (List ℕ) → Type 0
@@ -17,7 +17,7 @@ pub record GrewAtEnd (before after : NameBook) : Type 0 where
 abbrev some_names : NameBook
 some_names = record { classes = codes "A" ∷ codes "B" ∷ []; selectors = []; bodies = codes "b" ∷ [] }
 
-two_more : GrewAtEnd some_names (with_body (with_class some_names (codes "C")) (codes "a"))
+two_more : GrewAtEnd some_names (with_body_name (with_class_name some_names (codes "C")) (codes "a"))
 two_more = record { classes = (codes "C" ∷ [], refl); selectors = ([], refl); bodies = (codes "a" ∷ [], refl) }
 
 -- a name that stands before the others isn't at the end

@@ -15,16 +15,16 @@ abbrev pub empty_book : NameBook
 empty_book = record { classes = []; selectors = []; bodies = [] }
 
 -- the book with this name of a class, of a selector or of a body: a new one comes last
-abbrev pub with_class : NameBook → List ℕ → NameBook
-with_class book name = record
+abbrev pub with_class_name : NameBook → List ℕ → NameBook
+with_class_name book name = record
     { classes = with_text name book.classes; selectors = book.selectors; bodies = book.bodies }
 
-abbrev pub with_selector : NameBook → List ℕ → NameBook
-with_selector book name = record
+abbrev pub with_selector_name : NameBook → List ℕ → NameBook
+with_selector_name book name = record
     { classes = book.classes; selectors = with_text name book.selectors; bodies = book.bodies }
 
-abbrev pub with_body : NameBook → List ℕ → NameBook
-with_body book name = record
+abbrev pub with_body_name : NameBook → List ℕ → NameBook
+with_body_name book name = record
     { classes = book.classes; selectors = book.selectors; bodies = with_text name book.bodies }
 
 -- the number of a name in its list

@@ -1,6 +1,6 @@
 -- The words of a line: some stand for themselves, the others are names, which have their texts in a book.
 use Rattle.std.specs.Prelude.{◌≡◌, ℕ, List, [], ◌∷◌, Option, Some, decimal, slice_get}
-use Rattle.dt_script.specs.NameBook.{NameBook, with_class, with_selector, with_body}
+use Rattle.dt_script.specs.NameBook.{NameBook, with_class_name, with_selector_name, with_body_name}
 
 -- a word that stands for itself, a number, or the number of a name
 pub data Word : Type 0 where
@@ -29,9 +29,9 @@ AreTexts book (word ∷ words) (text ∷ texts) = (text_of_word book word ≡ So
 abbrev pub with_word : NameBook → Word → List ℕ → NameBook
 with_word book (Plain plain) text = book
 with_word book (Number number) text = book
-with_word book (Class number) text = with_class book text
-with_word book (Selector number) text = with_selector book text
-with_word book (Body number) text = with_body book text
+with_word book (Class number) text = with_class_name book text
+with_word book (Selector number) text = with_selector_name book text
+with_word book (Body number) text = with_body_name book text
 
 -- the book after words with these texts: their names are numbered from left to right
 abbrev pub book_after : NameBook → List Word → List (List ℕ) → NameBook

@@ -1,6 +1,6 @@
 -- A line whose names are still texts: its words, and the line that it is once they have numbers.
 use Rattle.std.specs.Prelude.{◌≡◌, ℕ, Bool, true, IsTrue, List, [], ◌∷◌, ◌++◌, map, codes, decimal, Option, None, Some}
-use Rattle.dt_script.specs.NameBook.{NameBook, with_class, with_selector, with_body, number_in}
+use Rattle.dt_script.specs.NameBook.{NameBook, with_class_name, with_selector_name, with_body_name, number_in}
 use Rattle.dt_script.specs.Cut.{parts_at}
 use Rattle.dt_script.specs.Line.{is_from_one_to}
 use Rattle.dt_script.specs.Keyword.{text_of_keyword, MayFollow}
@@ -34,9 +34,9 @@ text_of_token (BodyName text) = text
 abbrev pub with_token : NameBook → Token → NameBook
 with_token book (Plain text) = book
 with_token book (Number number) = book
-with_token book (ClassName text) = with_class book text
-with_token book (SelectorName text) = with_selector book text
-with_token book (BodyName text) = with_body book text
+with_token book (ClassName text) = with_class_name book text
+with_token book (SelectorName text) = with_selector_name book text
+with_token book (BodyName text) = with_body_name book text
 
 -- the book with all their names, numbered from left to right
 abbrev pub with_tokens : NameBook → List Token → NameBook

@@ -3,7 +3,7 @@ ghost use Rattle.std.specs.Option.{option_copied};
 ghost use Rattle.dt_selectors.specs.Names.{is_name, position_of};
 ghost use Rattle.dt_script.specs.Growth.{GrewAtEnd};
 ghost use Rattle.dt_script.specs.LawfulBook.{LawfulBook};
-ghost use Rattle.dt_script.specs.NameBook.{empty_book, is_within_limits, with_class, with_selector, with_body, number_in};
+ghost use Rattle.dt_script.specs.NameBook.{empty_book, is_within_limits, with_class_name, with_selector_name, with_body_name, number_in};
 
 use dt_definitions::{BODIES, BodyNo, CLASSES, ClassNo, NoMemory, SELECTORS, SelNo};
 use dt_selectors::{NameFault, Names};
@@ -59,7 +59,7 @@ impl NameBook {
     /// After an error the names are as they were.
     pub fn class(&mut self, name: &[u8]) -> Result<ClassNo, NameFault>
         requires { IsTrue (is_name name.now) }
-        ensures ok { OnOk result (self.new ≡ with_class self.old name.now) }
+        ensures ok { OnOk result (self.new ≡ with_class_name self.old name.now) }
         ensures number { IfOk result (λ class. class ≡ number_in self.new.classes name.now) }
         ensures full { IsErrOf result NameFault.NamesFull
             ↔ IsTrue (is_none (position_of name.now self.old.classes) && nat_le CLASSES (length self.old.classes)) }
@@ -79,7 +79,7 @@ impl NameBook {
     /// selectors. After an error the names are as they were.
     pub fn selector(&mut self, name: &[u8]) -> Result<SelNo, NameFault>
         requires { IsTrue (is_name name.now) }
-        ensures ok { OnOk result (self.new ≡ with_selector self.old name.now) }
+        ensures ok { OnOk result (self.new ≡ with_selector_name self.old name.now) }
         ensures number { IfOk result (λ selector. selector ≡ number_in self.new.selectors name.now) }
         ensures full { IsErrOf result NameFault.NamesFull
             ↔ IsTrue (is_none (position_of name.now self.old.selectors) && nat_le SELECTORS (length self.old.selectors)) }
@@ -99,7 +99,7 @@ impl NameBook {
     /// After an error the names are as they were.
     pub fn body(&mut self, name: &[u8]) -> Result<BodyNo, NameFault>
         requires { IsTrue (is_name name.now) }
-        ensures ok { OnOk result (self.new ≡ with_body self.old name.now) }
+        ensures ok { OnOk result (self.new ≡ with_body_name self.old name.now) }
         ensures number { IfOk result (λ body. body ≡ number_in self.new.bodies name.now) }
         ensures full { IsErrOf result NameFault.NamesFull
             ↔ IsTrue (is_none (position_of name.now self.old.bodies) && nat_le BODIES (length self.old.bodies)) }

@@ -2,7 +2,7 @@ ghost use Rattle.std.specs.Prelude.{◌≡◌, ◌<◌, ◌≤◌, ◌++◌, ◌
 ghost use Rattle.std.specs.List.{list_all};
 ghost use Rattle.std.specs.Option.{option_copied};
 ghost use Rattle.dt_selectors.specs.Names.{is_name};
-ghost use Rattle.dt_script.specs.NameBook.{is_within_limits, number_in, with_class};
+ghost use Rattle.dt_script.specs.NameBook.{is_within_limits, number_in, with_class_name};
 ghost use Rattle.dt_script.specs.Growth.{GrewAtEnd};
 ghost use Rattle.dt_script.specs.Words.{words_left};
 ghost use Rattle.dt_script.specs.Numbering.{with_classes, numbers_in, IsNumbered};
@@ -23,11 +23,11 @@ pub fn number_two(
 ) -> Result<(ClassNo, ClassNo), NameFault>
     requires first { IsTrue (is_name first.now) }
     requires second { IsTrue (is_name second.now) }
-    ensures ok { OnOk result (names.new ≡ with_class (with_class names.old first.now) second.now) }
+    ensures ok { OnOk result (names.new ≡ with_class_name (with_class_name names.old first.now) second.now) }
     ensures first { IfOk result (λ numbers. numbers.0 ≡ number_in names.new.classes first.now) }
     ensures second { IfOk result (λ numbers. numbers.1 ≡ number_in names.new.classes second.now) }
     ensures full { IsErrOf result NameFault.NamesFull
-        → IsTrue (not (is_within_limits (with_class (with_class names.old first.now) second.now))) }
+        → IsTrue (not (is_within_limits (with_class_name (with_class_name names.old first.now) second.now))) }
     ensures grew { GrewAtEnd names.old names.new }
 {
     let first = names.class(first)?;

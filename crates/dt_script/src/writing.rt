@@ -133,6 +133,23 @@ fn push_drop(text: &mut Vec<u8>, names: &NameBook, class: ClassNo) -> Result<(),
     push_class(text, names, class)
 }
 
+// Puts the name of a class and of one above it, with the word before them and the sign between them.
+fn push_two(
+    text: &mut Vec<u8>,
+    names: &NameBook,
+    word: &[u8],
+    class: ClassNo,
+    parent: ClassNo,
+) -> Result<(), NoMemory>
+    ensures { OnOk result (text.new.items ≡ text.old.items ++ word.now ++ 32 ∷ word_text names.now (Class class)
+        ++ 32 ∷ 60 ∷ 32 ∷ word_text names.now (Class parent)) }
+{
+    push(text, word)?;
+    push_class(text, names, class)?;
+    push_word(text, b"<")?;
+    push_class(text, names, parent)
+}
+
 // Puts the line of a new link.
 fn push_link(
     text: &mut Vec<u8>,
@@ -142,10 +159,7 @@ fn push_link(
 ) -> Result<(), NoMemory>
     ensures { OnOk result (text.new.items ≡ text.old.items ++ line_text names.now (Line.Link class parent)) }
 {
-    push(text, b"link")?;
-    push_class(text, names, class)?;
-    push_word(text, b"<")?;
-    push_class(text, names, parent)
+    push_two(text, names, b"link", class, parent)
 }
 
 // Puts the line of a link that goes.
@@ -157,10 +171,7 @@ fn push_unlink(
 ) -> Result<(), NoMemory>
     ensures { OnOk result (text.new.items ≡ text.old.items ++ line_text names.now (Line.Unlink class parent)) }
 {
-    push(text, b"unlink")?;
-    push_class(text, names, class)?;
-    push_word(text, b"<")?;
-    push_class(text, names, parent)
+    push_two(text, names, b"unlink", class, parent)
 }
 
 // Puts the line of a new selector.

@@ -1,6 +1,6 @@
 use Rattle.std.proofs.Common.{[], ◌∷◌, subst}
 use Rattle.std.specs.Prelude.{IsTrue, not}
-use Rattle.dt_script.specs.NameBook.{NameBook, is_within_limits, with_class}
+use Rattle.dt_script.specs.NameBook.{NameBook, is_within_limits, with_class_name}
 use Rattle.dt_selectors.specs.declared.names.NameFault.TheVariants.{NamesFull}
 use Rattle.dt_script.proofs.HandedOn.{handed_on}
 use Rattle.dt_script.proofs.NumbersStay.{full_class, first_stays}
@@ -12,7 +12,7 @@ returns-in_err-first-clause-full c = λ full.
 
 pub returns-in_err-second-clause-full : goal.returns-in_err-second-clause-full
 returns-in_err-second-clause-full c = λ full.
-    subst (λ (b : NameBook). IsTrue (not (is_within_limits (with_class b c.args.second.now)))) c.in_ok-first.ensures.ok
+    subst (λ (b : NameBook). IsTrue (not (is_within_limits (with_class_name b c.args.second.now)))) c.in_ok-first.ensures.ok
     (full_class c.class.new.self c.args.second.now [] (c.in_err-second.ensures.full.0 (handed_on c.from_residual-in_err-second.result c.in_err-second.field-0.0 NamesFull c.from_residual-in_err-second.ensures.1 full)))
 
 pub returns-clause-first : goal.returns-clause-first

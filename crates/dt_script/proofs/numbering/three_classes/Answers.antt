@@ -1,18 +1,18 @@
 use Rattle.std.proofs.Common.{[], ◌∷◌, subst}
 use Rattle.std.specs.Prelude.{IsTrue, not}
-use Rattle.dt_script.specs.NameBook.{NameBook, is_within_limits, with_class}
+use Rattle.dt_script.specs.NameBook.{NameBook, is_within_limits, with_class_name}
 use Rattle.dt_script.proofs.NumbersStay.{full_class, handed_number, many_stay, three_numbers}
 use Rattle.dt_script.proofs.numbering.three_classes.Goals as goal
 
 pub returns-in_err-a-clause-numbered : goal.returns-in_err-a-clause-numbered
 returns-in_err-a-clause-numbered c =
     handed_number c.args.names.now c.number_two.new.names (c.args.a.now ∷ c.args.b.now ∷ c.args.c.now ∷ []) c.from_residual.result c.in_err-a.field-0.0 c.from_residual.ensures.1
-    (λ full. many_stay (with_class (with_class c.args.names.now c.args.a.now) c.args.b.now) (c.args.c.now ∷ []) (c.in_err-a.ensures.full full))
+    (λ full. many_stay (with_class_name (with_class_name c.args.names.now c.args.a.now) c.args.b.now) (c.args.c.now ∷ []) (c.in_err-a.ensures.full full))
 
 pub returns-in_err-c-clause-numbered : goal.returns-in_err-c-clause-numbered
 returns-in_err-c-clause-numbered c =
     handed_number c.args.names.now c.class.new.self (c.args.a.now ∷ c.args.b.now ∷ c.args.c.now ∷ []) c.from_residual-in_err-c.result c.in_err-c.field-0.0 c.from_residual-in_err-c.ensures.1
-    (λ full. subst (λ (b : NameBook). IsTrue (not (is_within_limits (with_class b c.args.c.now)))) c.in_ok-a.ensures.ok
+    (λ full. subst (λ (b : NameBook). IsTrue (not (is_within_limits (with_class_name b c.args.c.now)))) c.in_ok-a.ensures.ok
     (full_class c.number_two.new.names c.args.c.now [] (c.in_err-c.ensures.full.0 full)))
 
 pub returns-clause-numbered : goal.returns-clause-numbered
