@@ -15,6 +15,8 @@ SCRIPT_BYTES = 16_777_216
 NAMES = {"class": 2_048, "selector": 4_096, "body": 65_536}
 PARENTS = 16
 DEFINITIONS = 65_536
+CELLS = 4_194_304
+ROWS = 16_384
 WORD = re.compile(rb"[!-~]{1,64}")
 NUMBER = re.compile(rb"[1-9][0-9]{0,2}")
 
@@ -183,6 +185,29 @@ class Program:
     def count(self):
         return sum(len(bodies) for bodies in self.bodies.values())
 
+    def sizes(self):
+        """How many calls are understood, and how many rows there are."""
+        cells = rows = 0
+        for bodies in self.bodies.values():
+            more = self.sizes_below(frozenset(bodies), {})
+            cells, rows = cells + more[0], rows + more[1]
+        return cells, rows
+
+    def sizes_below(self, tuples, found):
+        """The same of the lists of classes that are below one of the tuples; equal sets of tuples are gone through once."""
+        if not tuples:
+            return 0, 0
+        if () in tuples:
+            return 1, 0
+        if tuples not in found:
+            cells, rows = 0, 1
+            for name in self.parents:
+                above = self.above_of(name)
+                more = self.sizes_below(frozenset(one[1:] for one in tuples if one[0] in above), found)
+                cells, rows = cells + more[0], rows + more[1]
+            found[tuples] = cells, rows
+        return found[tuples]
+
     def known(self, name):
         if name not in self.parents:
             raise Refused(f"2 class-unknown {text(name)}")
@@ -302,13 +327,18 @@ def text(name):
 
 
 def apply(program, batch, numbers):
-    """The program after the batch, or the words of its first refusal."""
+    """The program after the batch, or the line that tells why there is none."""
     tried = program.copy()
     for place, (kind, parts) in enumerate(batch, 1):
         try:
             tried.edit(kind, parts, numbers)
         except Refused as why:
             return None, f"edit refused {place} {why}"
+    cells, rows = tried.sizes()
+    if cells > CELLS:
+        return None, "edit cells-full"
+    if rows > ROWS:
+        return None, "edit rows-full"
     return tried, None
 
 

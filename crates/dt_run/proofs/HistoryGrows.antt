@@ -6,6 +6,7 @@ use Rattle.std.specs.Result.{result_unwrap_or}
 use Rattle.dt_definitions.specs.Program.{Program}
 use Rattle.dt_definitions.specs.Step.{step_batch, after, Refused as Refusal}
 use Rattle.dt_definitions.specs.BatchLaws.{HistoriesGoOnByOne}
+use Rattle.dt_tables.specs.Listed.{has_more_cells, has_more_rows}
 use Rattle.dt_run.specs.Versions.{Batch, accepted, AreNumberedFrom}
 use Rattle.dt_run.specs.Edits.{line_by, edit_line, version_after, AreEditsFrom}
 use Rattle.dt_run.specs.Performing.{stepped_by, after_batch, edit_lines, after_batches}
@@ -44,12 +45,19 @@ module _ (goes_on : HistoriesGoOnByOne) (limit : ℕ) where
   stands_by : (h : History) (here : Snapshot) (batch : Batch) → StandsOn h here → (r : Result Program Refusal)
       → step_batch here.program batch ≡ r
       → StandsOn (h ++ accepted (batch ∷ []) (line_by here.version r ∷ [])) (stepped_by here r)
-  stands_by h here batch stands (Ok q) stepped =
-      let old : step_batch (after h) batch ≡ Ok q = subst (λ (p : Program). step_batch p batch ≡ Ok q) stands.program stepped in
-      record {
-        counted = omega (arith, stands.counted, length-append h (batch ∷ []));
-        program = sym (goes_on h batch ∙ ap (λ r. result_unwrap_or r (after h)) old);
-      }
+  stands_by h here batch stands (Ok q) stepped = within (has_more_cells q) (has_more_rows q)
+    where
+      within : (cells rows : Bool) → StandsOn
+          (h ++ accepted (batch ∷ []) ((if cells then CellsFull else if rows then RowsFull else Accepted (here.version + 1)) ∷ []))
+          (if cells then here else if rows then here else record { version = here.version + 1; program = q })
+      within true rows = subst (λ (g : History). StandsOn g here) (sym (append-nil h)) stands
+      within false true = subst (λ (g : History). StandsOn g here) (sym (append-nil h)) stands
+      within false false =
+          let old : step_batch (after h) batch ≡ Ok q = subst (λ (p : Program). step_batch p batch ≡ Ok q) stands.program stepped in
+          record {
+            counted = omega (arith, stands.counted, length-append h (batch ∷ []));
+            program = sym (goes_on h batch ∙ ap (λ r. result_unwrap_or r (after h)) old);
+          }
   stands_by h here batch stands (Err refused) stepped =
       subst (λ (g : History). StandsOn g here) (sym (append-nil h)) stands
 
@@ -82,7 +90,14 @@ module _ (goes_on : HistoriesGoOnByOne) (limit : ℕ) where
       → AreNumberedFrom here.version ((if full then VersionsFull else line_by here.version r)
       ∷ edit_lines limit (if full then here else stepped_by here r) batches)
   numbered_by here batch batches rest true r = rest here
-  numbered_by here batch batches rest false (Ok q) = (refl, rest (record { version = here.version + 1; program = q }))
+  numbered_by here batch batches rest false (Ok q) = within (has_more_cells q) (has_more_rows q)
+    where
+      within : (cells rows : Bool) → AreNumberedFrom here.version
+          ((if cells then CellsFull else if rows then RowsFull else Accepted (here.version + 1))
+          ∷ edit_lines limit (if cells then here else if rows then here else record { version = here.version + 1; program = q }) batches)
+      within true rows = rest here
+      within false true = rest here
+      within false false = (refl, rest (record { version = here.version + 1; program = q }))
   numbered_by here batch batches rest false (Err refused) = rest here
 
   pub numbered : (batches : List Batch) (here : Snapshot) → AreNumberedFrom here.version (edit_lines limit here batches)
@@ -100,7 +115,14 @@ module _ (goes_on : HistoriesGoOnByOne) (limit : ℕ) where
       → (if full then here else stepped_by here r).version
       ≡ version_after here.version (if full then VersionsFull else line_by here.version r)
   version_of_line here true r = refl
-  version_of_line here false (Ok q) = refl
+  version_of_line here false (Ok q) = within (has_more_cells q) (has_more_rows q)
+    where
+      within : (cells rows : Bool)
+          → (if cells then here else if rows then here else record { version = here.version + 1; program = q }).version
+          ≡ version_after here.version (if cells then CellsFull else if rows then RowsFull else Accepted (here.version + 1))
+      within true rows = refl
+      within false true = refl
+      within false false = refl
   version_of_line here false (Err refused) = refl
 
   -- each line is that of its batch after the batches accepted before it

@@ -4,6 +4,7 @@ pub mod TextCut
 pub mod LineDecode
 pub mod OneShape
 pub mod SameLogs
+pub mod CommittedLine
 pub mod HistoryGrows
 pub mod CallersFollow
 pub mod PerformedOutcome

@@ -1,5 +1,5 @@
 -- In the log of an outcome every number has a name, where the numbers of the script's edits do.
-use Rattle.std.proofs.Common.{◌≡◌, ◌==◌, ℕ, ◌+◌, arith, Bool, true, false, cond, ◌||◌, not, IsTrue, List, [], ◌∷◌, ◌++◌, take, map, Option, Some, None, Ok, Err, refl, sym, subst, ◌∙◌, ◌⊎◌, inl, inr, ⊎_elim, eqb-true, eq-eqb, All}
+use Rattle.std.proofs.Common.{if◌then◌else◌, ◌≡◌, ◌==◌, ℕ, ◌+◌, arith, Bool, true, false, cond, ◌||◌, not, IsTrue, List, [], ◌∷◌, ◌++◌, take, map, Option, Some, None, Ok, Err, refl, sym, subst, ◌∙◌, ◌⊎◌, inl, inr, ⊎_elim, eqb-true, eq-eqb, All}
 use Rattle.std.specs.Prelude.{IfSome, is_some, slice_get}
 use Rattle.std.specs.List.{AllByRecursion, AllZip, list_all, flat_map}
 use Rattle.std.proofs.lemmas.Bool.{or_cases, or_left, or_right, and_parts, and_from, false≢true, cases_Bool}
@@ -29,6 +29,7 @@ use Rattle.dt_script.specs.declared.line.CallerLine.TheVariants.{Call, Pin, Unpi
 use Rattle.dt_run.specs.Log.{Log, PhaseLog, PartLog}
 use Rattle.dt_run.specs.LogShape.{IsLogOfLine, IsLogOfPart, HasShape}
 use Rattle.dt_run.specs.Versions.{Batch, accepted, history_of}
+use Rattle.dt_tables.specs.Listed.{has_more_cells, has_more_rows}
 use Rattle.dt_run.specs.Edits.{line_by, edit_line, version_after, AreEditsFrom}
 use Rattle.dt_run.specs.CallerLines.{CallerEntry, first_of_each, line_entries, part_entries, entries_of}
 use Rattle.dt_run.specs.Calls.{Answers, pin_after, least_after, Follows}
@@ -142,12 +143,18 @@ module _ (book : NameBook) where
         | (Some class) ↦ λ k. and_from (is_some (slice_get book.classes class)) true k refl
       ] known
 
+  new_named : (version : ℕ) (cells rows : Bool)
+      → Named (words_of_edit_line (if cells then CellsFull else if rows then RowsFull else Accepted (version + 1)))
+  new_named version true rows = refl
+  new_named version false true = refl
+  new_named version false false = refl
+
   edit_line_named : (limit version : ℕ) (p : Program) (batch : Batch) → KnownProgram HasClass HasBody p → All (KnownEdit HasClass HasBody) batch
       → Named (words_of_edit_line (edit_line limit version p batch))
   edit_line_named limit version p batch known edits =
       let stepped : Named (words_of_edit_line (line_by version (step_batch p batch))) =
       elim (step_batch p batch) as (λ r. KnownStep HasClass HasBody r → Named (words_of_edit_line (line_by version r))) [
-        | (Ok q) ↦ λ _. refl
+        | (Ok q) ↦ λ _. new_named version (has_more_cells q) (has_more_rows q)
         | (Err refused) ↦ λ k. refused_named refused.at refused.why k
       ] (step_known HasClass HasBody 1 p batch known edits) in
       elim (version == limit) as (λ b. Named (words_of_edit_line (cond b VersionsFull (line_by version (step_batch p batch))))) [ true ↦ refl | false ↦ stepped ]

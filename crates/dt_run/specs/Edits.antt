@@ -3,19 +3,26 @@ use Rattle.std.specs.Prelude.{◌≡◌, ◌==◌, ℕ, ◌+◌, if◌then◌els
 use Rattle.std.specs.List.{AllZip}
 use Rattle.dt_definitions.specs.Program.{Program}
 use Rattle.dt_definitions.specs.Step.{step_batch, after, Refused as Refusal}
+use Rattle.dt_tables.specs.Listed.{has_more_cells, has_more_rows}
 use Rattle.dt_script.specs.Script.{Phase}
 use Rattle.dt_run.specs.Log.{PhaseLog}
 use Rattle.dt_run.specs.Versions.{Batch}
 use Rattle.dt_run.specs.declared.log.EditLine.{EditLine}
-use Rattle.dt_run.specs.declared.log.EditLine.TheVariants.{Accepted, Refused, VersionsFull}
+use Rattle.dt_run.specs.declared.log.EditLine.TheVariants.{Accepted, Refused, VersionsFull, CellsFull, RowsFull}
+
+-- the line of a batch that makes this program, at this version: the program would have more understood queries than a table
+-- can have cells; it would have more rows; else it is accepted
+abbrev pub line_of_new : ℕ → Program → EditLine
+line_of_new version program =
+    if has_more_cells program then CellsFull else if has_more_rows program then RowsFull else Accepted (version + 1)
 
 -- the line of a batch that steps so, at this version
 abbrev pub line_by : ℕ → Result Program Refusal → EditLine
-line_by version (Ok program) = Accepted (version + 1)
+line_by version (Ok program) = line_of_new version program
 line_by version (Err refused) = Refused refused.at refused.why
 
 -- the line of a batch at this version of the program, the first that holds: there may be no further version; an edit is
--- refused; else it is accepted
+-- refused; the new program passes the limit of cells; it passes that of rows; else the batch is accepted
 abbrev pub edit_line : ℕ → ℕ → Program → Batch → EditLine
 edit_line limit version program batch =
     if version == limit then VersionsFull else line_by version (step_batch program batch)

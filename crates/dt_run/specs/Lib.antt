@@ -23,3 +23,6 @@ pub mod TextExamples
 pub mod Performing
 pub mod LogWord
 pub mod Putting
+-- A kind of table that covers no query, for tables that are named and not built.
+pub mod Untabled
+pub mod UntabledLaws

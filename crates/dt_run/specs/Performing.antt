@@ -1,8 +1,11 @@
 -- What performing a script does, batch by batch and line by line, where callers come after the edits of their phase.
-use Rattle.std.specs.Prelude.{◌==◌, ℕ, ◌+◌, if◌then◌else◌, List, [], ◌∷◌, set, get_or, replicate, Option, None, Some, Result, Ok, Err}
+use Rattle.std.specs.Prelude.{◌≡◌, ◌==◌, ℕ, ◌+◌, if◌then◌else◌, List, [], ◌∷◌, set, get_or, replicate, Option, None, Some, Result, Ok, Err}
 use Rattle.std.specs.List.{fold}
 use Rattle.dt_definitions.specs.Program.{Program, empty_program}
 use Rattle.dt_definitions.specs.Step.{step_batch, Refused as Refusal}
+use Rattle.dt_tables.specs.Listed.{has_more_cells, has_more_rows}
+use Rattle.dt_tables.specs.declared.commit_fault.CommitFault.{CommitFault}
+use Rattle.dt_tables.specs.declared.commit_fault.CommitFault.TheVariants as fault
 use Rattle.dt_scratch.specs.Query.{Query}
 use Rattle.dt_scratch.specs.Resolve.{reply}
 use Rattle.dt_script.specs.Script.{Part, Phase}
@@ -10,10 +13,11 @@ use Rattle.dt_script.specs.declared.line.CallerLine.{CallerLine}
 use Rattle.dt_script.specs.declared.line.CallerLine.TheVariants.{Call, Pin, Unpin}
 use Rattle.dt_run.specs.Log.{PartLog, PhaseLog}
 use Rattle.dt_run.specs.Versions.{Batch}
-use Rattle.dt_run.specs.Edits.{edit_line}
+use Rattle.dt_run.specs.Edits.{edit_line, line_by}
 use Rattle.dt_run.specs.declared.log.CallLine.{CallLine}
 use Rattle.dt_run.specs.declared.log.CallLine.TheVariants.{Called, PinnedAt, Unpinned}
 use Rattle.dt_run.specs.declared.log.EditLine.{EditLine}
+use Rattle.dt_run.specs.declared.log.EditLine.TheVariants.{Accepted, Refused, CellsFull, RowsFull}
 use Rattle.dt_run.specs.declared.log.Stamped.{Stamped}
 use Rattle.dt_run.specs.declared.perform.snapshot.Snapshot.{Snapshot}
 
@@ -26,10 +30,33 @@ outputs give next state (item ∷ items) = give state item ∷ outputs give next
 abbrev pub first_version : Snapshot
 first_version = record { version = 0; program = empty_program }
 
+-- the version after a batch that makes this program: the old one where a limit is passed
+abbrev pub stepped_to : Snapshot → Program → Snapshot
+stepped_to here program =
+    if has_more_cells program then here else if has_more_rows program then here
+    else record { version = here.version + 1; program = program }
+
 -- the version after a batch that steps so
 abbrev pub stepped_by : Snapshot → Result Program Refusal → Snapshot
-stepped_by here (Ok program) = record { version = here.version + 1; program = program }
+stepped_by here (Ok program) = stepped_to here program
 stepped_by here (Err refused) = here
+
+-- a batch has this line at this version of the program, where there may be a further one, and leads to the later version
+pub record Comes (version : ℕ) (old : Program) (batch : Batch) (line : EditLine) (later : Snapshot) : Type 0 where
+  pub line_is : line_by version (step_batch old batch) ≡ line
+  pub later_is : stepped_by (record { version = version; program = old }) (step_batch old batch) ≡ later
+
+-- what the answer of a commit says of its batch, where the program after it is this one
+abbrev pub Tells : ℕ → Program → Batch → Program → Result (Unit {0}) CommitFault → Type 0
+Tells version old batch new (Ok _) =
+    Comes version old batch (Accepted (version + 1)) (record { version = version + 1; program = new })
+Tells version old batch new (Err (fault.Refused at why)) =
+    (new ≡ old) × Comes version old batch (Refused at why) (record { version = version; program = old })
+Tells version old batch new (Err fault.CellsFull) =
+    (new ≡ old) × Comes version old batch CellsFull (record { version = version; program = old })
+Tells version old batch new (Err fault.RowsFull) =
+    (new ≡ old) × Comes version old batch RowsFull (record { version = version; program = old })
+Tells version old batch new (Err fault.NoMemory) = new ≡ old
 
 -- the version after a batch
 abbrev pub after_batch : ℕ → Snapshot → Batch → Snapshot

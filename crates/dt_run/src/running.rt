@@ -18,12 +18,17 @@ use crate::perform::perform_script;
 use crate::print::{print_fault, print_log};
 use crate::status::Status;
 use crate::turnstile::Turnstile;
+use crate::untabled::Untabled;
+use dt_cells::TableKind;
+use dt_colour::Colour;
 use dt_definitions::NoMemory;
 use dt_outside::{Failed, Sink, Source, put_all};
+use dt_row::Row;
 use dt_script::{
     Script, ScriptFault, bytes_have_one_answer, read_script, scripts_read_are_playable,
 };
-use dt_words::{ArgWords, Command, VERSIONS, WordsFault, read_words};
+use dt_sti::Sti;
+use dt_words::{ArgWords, Command, Table, VERSIONS, WordsFault, read_words};
 use std::alloc::Global;
 use std::thread::Threads;
 
@@ -101,13 +106,14 @@ fn print<K: Sink>(sink: &mut K, script: &Script, log: Log) -> Ran
 }
 
 // Performs a script, and prints its log.
-fn perform_and_print<K: Sink, T: Turnstile>(
+fn perform_and_print<Kind: TableKind, K: Sink, T: Turnstile>(
     alloc: Global,
     sink: &mut K,
     script: &Script,
     readers: u16,
     turnstile: &T,
 ) -> Ran
+    requires kind { 1 ≤ Kind.kind.most_low }
     requires playable { Playable readers script.now }
     requires names { HasNames script.now }
     ensures ends { (bytes : List ℕ) → IsScriptOf readers bytes script.now
@@ -115,15 +121,41 @@ fn perform_and_print<K: Sink, T: Turnstile>(
         (outside None 0 (K.taken sink.old) (K.faults sink.old)) (outside None 0 (K.taken sink.new) (K.faults sink.new)) }
     ensures counts { K.faults sink.old ≤ K.faults sink.new }
 {
-    match perform_script(alloc, script, readers, VERSIONS, turnstile) {
+    match perform_script::<Kind, T>(alloc, script, readers, VERSIONS, turnstile) {
         Ok(log) => print(sink, script, log),
         Err(NoMemory) => end_with_fault(sink, ScriptFault::NoMemory),
     }
 }
 
 // Reads the source to its end, performs the script that its bytes are, and prints the log.
-fn run_source<S: Source, K: Sink, T: Turnstile>(
+fn run_source<Kind: TableKind, S: Source, K: Sink, T: Turnstile>(
     alloc: Global,
+    source: &mut S,
+    sink: &mut K,
+    readers: u16,
+    turnstile: &T,
+) -> Ran
+    requires kind { 1 ≤ Kind.kind.most_low }
+    requires least { 1 ≤ readers }
+    requires greatest { readers ≤ CALLERS }
+    ensures ends { Ending readers result.status result.log
+        (outside (S.left source.old) (S.faults source.old) (K.taken sink.old) (K.faults sink.old))
+        (outside (S.left source.new) (S.faults source.new) (K.taken sink.new) (K.faults sink.new)) }
+    ensures lost { LosesAtMost (SCRIPT_BYTES + 1) (S.left source.old) (S.left source.new) }
+    ensures source_counts { S.faults source.old ≤ S.faults source.new }
+    ensures sink_counts { K.faults sink.old ≤ K.faults sink.new }
+{
+    scripts_read_are_playable();
+    match read_script(alloc, source, readers) {
+        Ok(script) => perform_and_print::<Kind, K, T>(alloc, sink, &script, readers, turnstile),
+        Err(fault) => end_with_fault(sink, fault),
+    }
+}
+
+// The same by the kind of table that the words name, a line for each.
+fn run_by<S: Source, K: Sink, T: Turnstile>(
+    alloc: Global,
+    table: Table,
     source: &mut S,
     sink: &mut K,
     readers: u16,
@@ -138,16 +170,19 @@ fn run_source<S: Source, K: Sink, T: Turnstile>(
     ensures source_counts { S.faults source.old ≤ S.faults source.new }
     ensures sink_counts { K.faults sink.old ≤ K.faults sink.new }
 {
-    scripts_read_are_playable();
-    match read_script(alloc, source, readers) {
-        Ok(script) => perform_and_print(alloc, sink, &script, readers, turnstile),
-        Err(fault) => end_with_fault(sink, fault),
+    match table {
+        Table::Sti => run_source::<Sti, S, K, T>(alloc, source, sink, readers, turnstile),
+        Table::Colour => run_source::<Colour, S, K, T>(alloc, source, sink, readers, turnstile),
+        Table::Row => run_source::<Row, S, K, T>(alloc, source, sink, readers, turnstile),
+        Table::Mrd => run_source::<Untabled, S, K, T>(alloc, source, sink, readers, turnstile),
     }
 }
 
 /// Runs the program: reads the words, then the source to its end, performs the script, and prints the log to the sink.
-/// Whichever table the words name, each call is answered by look-up from scratch: after the edits of its phase, or at the
-/// version of its caller's pin.
+/// Each call is answered after the edits of its phase, or at the version of its caller's pin. Calls with one argument and no
+/// pin in force are answered by the table: selector table indexing (`sti`), selector colouring (`colour`) or row displacement
+/// (`row`). All other calls, and all calls with `mrd`, which isn't built yet, by look-up from scratch. What is answered is the
+/// same.
 ///
 /// The status tells how it ended. [`Status::Done`]: the bytes are a script for as many readers as the words say, the log
 /// is an outcome of it, and the sink took its text. [`Status::Usage`]: exactly where the words ask for no run and memory
@@ -197,8 +232,8 @@ pub fn run<H: Threads + Sync, S: Source, K: Sink, T: Turnstile>(
 {
     bytes_have_one_answer();
     match read_words(alloc, words) {
-        Ok(Command::Run { table: _, limits }) => {
-            run_source(alloc, source, sink, limits.readers(), turnstile)
+        Ok(Command::Run { table, limits }) => {
+            run_by(alloc, table, source, sink, limits.readers(), turnstile)
         }
         Ok(Command::Gen { .. }) => end_with_usage(sink),
         Err(WordsFault::Usage) => end_with_usage(sink),

@@ -18,11 +18,15 @@ mod full;
 #[cfg(test)]
 mod lines;
 #[cfg(test)]
+mod places;
+#[cfg(test)]
 mod rows;
 #[cfg(test)]
 mod running;
 #[cfg(test)]
 mod second_look_up;
+#[cfg(test)]
+mod tabled;
 #[cfg(test)]
 mod tables;
 #[cfg(test)]

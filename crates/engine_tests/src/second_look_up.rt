@@ -30,7 +30,7 @@ enum Shape {
 // A definition of the selector that takes so many arguments, by the places of its classes. Places that it doesn't take
 // are 0.
 #[derive(Clone, Copy, Debug, Default)]
-struct Kept {
+struct Placed {
     arity: u8,
     places: [u16; 4],
     body: u16,
@@ -41,7 +41,7 @@ struct Kept {
 #[derive(Drop)]
 struct Second {
     above: ArrayVec<u16, 16>,
-    definitions: ArrayVec<Kept, 32>,
+    definitions: ArrayVec<Placed, 32>,
 }
 
 // How often each answer came: by a method, by none, and ambiguous.
@@ -104,7 +104,7 @@ impl Second {
     }
 
     // A definition comes, in the place of one at the same classes.
-    fn define(&mut self, kept: Kept) {
+    fn define(&mut self, kept: Placed) {
         for other in self.definitions.as_mut_slice() {
             if other.arity == kept.arity && other.places == kept.places {
                 other.body = kept.body;
@@ -127,7 +127,7 @@ impl Second {
             .all(|(low, high)| self.is_at_or_below(*low, *high))
     }
 
-    fn applies(&self, kept: &Kept, arity: u8, places: &[u16; 4]) -> bool {
+    fn applies(&self, kept: &Placed, arity: u8, places: &[u16; 4]) -> bool {
         kept.arity == arity && self.are_at_or_below(places, &kept.places)
     }
 
@@ -223,7 +223,7 @@ fn class_edit(alloc: Global, place: u16, set: u16) -> Option<Edit> {
     Some(Edit::AddClass { class, parents })
 }
 
-fn define_edit(alloc: Global, kept: &Kept) -> Option<Edit> {
+fn define_edit(alloc: Global, kept: &Placed) -> Option<Edit> {
     let classes = tuple(alloc, &numbers(alloc, &kept.places, kept.arity)?)?;
     Some(Edit::Define {
         selector: selector(u16::from(kept.arity)),
@@ -276,7 +276,7 @@ fn define_some(
     for body in 0..DEFINITIONS {
         let arity = 1 + chance.below(4) as u8;
         let places = some_places(chance, arity, false);
-        let kept = Kept {
+        let kept = Placed {
             arity,
             places,
             body,

@@ -18,11 +18,11 @@ const PASSED: u64 = 2_126_222_711_162_328;
 
 // A turnstile that keeps what passes.
 #[derive(Drop)]
-struct Kept {
+struct Recorder {
     passed: AtomicU64,
 }
 
-impl Kept {
+impl Recorder {
     fn pass(&self, caller: u16, call: u64) {
         let before = self.passed.load(Ordering::SeqCst);
         let passing = u64::from(caller).wrapping_mul(10).wrapping_add(call);
@@ -31,7 +31,7 @@ impl Kept {
     }
 }
 
-impl Turnstile for Kept {
+impl Turnstile for Recorder {
     fn before(&self, caller: u16, call: u32) {
         self.pass(caller, u64::from(call));
     }
@@ -45,7 +45,7 @@ fn is_done<H: Threads + Sync + AllocGlobal>(
     rt: &H,
     words: &ArgWords,
     source: &mut ListSource,
-    turnstile: &Kept,
+    turnstile: &Recorder,
 ) -> Option<bool> {
     let mut sink = sink(rt.alloc(), 64, 0)?;
     Some(status_of(rt, rt.alloc(), words, source, &mut sink, turnstile) == Status::Done)
@@ -54,7 +54,7 @@ fn is_done<H: Threads + Sync + AllocGlobal>(
 fn runs<H: Threads + Sync + AllocGlobal>(
     rt: &H,
     words: &ArgWords,
-    turnstile: &Kept,
+    turnstile: &Recorder,
 ) -> Option<bool> {
     let mut source = source_of(rt.alloc(), CALLS, 64, 0)?;
     is_done(rt, words, &mut source, turnstile)
@@ -63,7 +63,7 @@ fn runs<H: Threads + Sync + AllocGlobal>(
 // What passed, where the run ended well.
 fn passed<H: Threads + Sync + AllocGlobal>(rt: &H) -> Option<u64> {
     let words = words(rt.alloc())?;
-    let turnstile = Kept {
+    let turnstile = Recorder {
         passed: AtomicU64::new(0),
     };
     if runs(rt, &words, &turnstile)? {

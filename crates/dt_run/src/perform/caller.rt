@@ -5,6 +5,7 @@ use crate::log::{CallLine, Stamped};
 use crate::perform::current::Current;
 use crate::perform::snapshot::Snapshot;
 use crate::turnstile::Turnstile;
+use dt_cells::TableKind;
 use dt_definitions::NoMemory;
 use dt_scratch::Query;
 use dt_script::CallerLine;
@@ -39,34 +40,42 @@ impl Caller {
         }
     }
 
+    // The reply at the version that the caller sees: one that it keeps has no table.
+    fn answer<K: TableKind>(&self, query: &Query, current: &mut Current<K>) -> Stamped
+        ensures answer { result ≡ stamped (seen current.old self.now) query.now }
+        ensures same { current.new ≡ current.old }
+    {
+        match &self.pin {
+            Some(kept) => kept.as_ref().answer(query),
+            None => current.answer(query),
+        }
+    }
+
     // Makes a call, between the two calls of the turnstile.
-    fn call<T: Turnstile>(
+    fn call<K: TableKind, T: Turnstile>(
         &mut self,
         number: u16,
         query: &Query,
-        current: &Current,
+        current: &mut Current<K>,
         turnstile: &T,
     ) -> Stamped
-        ensures answer { result ≡ stamped (seen current.now self.old) query.now }
-        ensures same { self.new ≡ self.old }
+        ensures answer { result ≡ stamped (seen current.old self.old) query.now }
+        ensures pin { self.new ≡ self.old }
+        ensures same { current.new ≡ current.old }
     {
         self.calls = self.calls.saturating_add(1);
         turnstile.before(number, self.calls);
-        let seen: &Snapshot = match &self.pin {
-            Some(kept) => kept.as_ref(),
-            None => current.snapshot(),
-        };
-        let stamped = seen.answer(query);
+        let stamped: Stamped = self.answer::<K>(query, current);
         turnstile.after(number, self.calls);
         stamped
     }
 
     // Performs a line of the caller with this number, and answers what is logged of it.
-    pub(crate) fn perform<T: Turnstile>(
+    pub(crate) fn perform<K: TableKind, T: Turnstile>(
         &mut self,
         number: u16,
         line: &CallerLine,
-        current: &mut Current,
+        current: &mut Current<K>,
         turnstile: &T,
     ) -> Result<CallLine, NoMemory>
         ensures line { IfOk result (λ logged. logged ≡ call_line current.old self.old line.now) }
@@ -75,12 +84,12 @@ impl Caller {
     {
         match line {
             CallerLine::Call { query } => Ok(CallLine::Called {
-                stamped: self.call(number, query, current, turnstile),
+                stamped: self.call::<K, T>(number, query, current, turnstile),
             }),
             CallerLine::Pin => {
                 self.pin = Some(current.keep()?);
                 Ok(CallLine::PinnedAt {
-                    version: current.snapshot().version,
+                    version: current.version(),
                 })
             }
             CallerLine::Unpin => {

@@ -6,14 +6,15 @@ use crate::log::{CallLine, EditLine, PartLog, PhaseLog};
 use crate::perform::caller::Caller;
 use crate::perform::current::Current;
 use crate::turnstile::Turnstile;
+use dt_cells::TableKind;
 use dt_definitions::{Batch, NoMemory};
 use dt_script::{CallerLine, Part, Phase};
 use std::alloc::Global;
 
 // Applies the batches in order, and answers a line for each.
-fn perform_edits(
+fn perform_edits<K: TableKind>(
     alloc: Global,
-    current: &mut Current,
+    current: &mut Current<K>,
     batches: &[Batch],
     limit: u64,
 ) -> Result<Vec<EditLine>, NoMemory>
@@ -24,7 +25,8 @@ fn perform_edits(
 {
     let mut lines = Vec::with_capacity(alloc, batches.len())?;
     for batch in batches {
-        current.apply(batch, limit, &mut lines)?;
+        let line: EditLine = current.apply(batch, limit)?;
+        lines.push(line)?;
     }
     Ok(lines)
 }
@@ -45,11 +47,11 @@ fn room_for(alloc: Global, parts: &[Part]) -> Result<Vec<PartLog>, NoMemory>
 }
 
 // Performs the lines of the caller with this number in order, and puts what is logged of each behind the others.
-fn perform_lines<T: Turnstile>(
+fn perform_lines<K: TableKind, T: Turnstile>(
     number: u16,
     lines: &[CallerLine],
     caller: &mut Caller,
-    current: &mut Current,
+    current: &mut Current<K>,
     turnstile: &T,
     logged: &mut Vec<CallLine>,
 ) -> Result<(), NoMemory>
@@ -58,17 +60,17 @@ fn perform_lines<T: Turnstile>(
     ensures same { current.new ≡ current.old }
 {
     for line in lines {
-        let call: CallLine = caller.perform(number, line, current, turnstile)?;
+        let call: CallLine = caller.perform::<K, T>(number, line, current, turnstile)?;
         logged.push(call)?;
     }
     Ok(())
 }
 
 // Performs a caller of a phase, whose log has no line yet.
-fn perform_part<T: Turnstile>(
+fn perform_part<K: TableKind, T: Turnstile>(
     part: &Part,
     caller: &mut Caller,
-    current: &mut Current,
+    current: &mut Current<K>,
     turnstile: &T,
     log: &mut PartLog,
 ) -> Result<(), NoMemory>
@@ -77,7 +79,7 @@ fn perform_part<T: Turnstile>(
     ensures pin { OnOk result (caller.new ≡ pin_after_lines current.old caller.old part.now.lines) }
     ensures same { current.new ≡ current.old }
 {
-    perform_lines(
+    perform_lines::<K, T>(
         part.caller,
         &part.lines,
         caller,
@@ -88,10 +90,10 @@ fn perform_part<T: Turnstile>(
 }
 
 // Performs the callers of a phase in order, each with the room for its lines.
-fn perform_parts<T: Turnstile>(
+fn perform_parts<K: TableKind, T: Turnstile>(
     parts: &[Part],
     callers: &mut [Caller],
-    current: &mut Current,
+    current: &mut Current<K>,
     turnstile: &T,
     logs: &mut [PartLog],
 ) -> Result<(), NoMemory>
@@ -103,18 +105,18 @@ fn perform_parts<T: Turnstile>(
 {
     for (place, part) in parts.iter().enumerate() {
         let caller = &mut callers[usize::from(part.caller)];
-        perform_part(part, caller, current, turnstile, &mut logs[place])?;
+        perform_part::<K, T>(part, caller, current, turnstile, &mut logs[place])?;
     }
     Ok(())
 }
 
 // Performs a phase: its batches, and then its callers at the version after them. The room for their lines is made
 // before.
-pub(crate) fn perform_phase<T: Turnstile>(
+pub(crate) fn perform_phase<K: TableKind, T: Turnstile>(
     alloc: Global,
     phase: &Phase,
     callers: &mut [Caller],
-    current: &mut Current,
+    current: &mut Current<K>,
     limit: u64,
     turnstile: &T,
 ) -> Result<PhaseLog, NoMemory>
@@ -125,13 +127,13 @@ pub(crate) fn perform_phase<T: Turnstile>(
         ≡ after_phase limit (record { current = current.old; pins = callers.old }) phase.now) }
     ensures few { OnOk result (current.new.version ≤ limit) }
 {
-    let from = current.snapshot().version;
+    let from = current.version();
     let mut logs = room_for(alloc, &phase.callers)?;
-    let edits = perform_edits(alloc, current, &phase.edits, limit)?;
-    perform_parts(&phase.callers, callers, current, turnstile, &mut logs)?;
+    let edits = perform_edits::<K>(alloc, current, &phase.edits, limit)?;
+    perform_parts::<K, T>(&phase.callers, callers, current, turnstile, &mut logs)?;
     Ok(PhaseLog {
         from,
-        to: current.snapshot().version,
+        to: current.version(),
         edits,
         callers: logs,
     })

@@ -1,11 +1,11 @@
-ghost use Rattle.std.specs.Prelude.{◌≡◌, IfOk};
+ghost use Rattle.std.specs.Prelude.{◌≡◌};
 ghost use Rattle.dt_run.specs.Performing.{stamped};
 
 use crate::log::Stamped;
-use dt_definitions::{NoMemory, Program};
+use dt_definitions::Program;
 use dt_scratch::{Query, Reply, resolve};
 
-// A version, and the program at it.
+// A version, and the program at it, without a table.
 #[derive(Drop)]
 pub(crate) struct Snapshot {
     // How many batches had been accepted.
@@ -15,7 +15,7 @@ pub(crate) struct Snapshot {
 }
 
 impl Snapshot {
-    // The reply at this version.
+    // The reply at this version, by look-up from scratch.
     pub(crate) fn answer(&self, query: &Query) -> Stamped
         ensures { result ≡ stamped self.now query.now }
     {
@@ -24,15 +24,5 @@ impl Snapshot {
             version: self.version,
             reply,
         }
-    }
-
-    // An equal snapshot, with memory of its own.
-    pub(crate) fn copy(&self) -> Result<Snapshot, NoMemory>
-        ensures { IfOk result (λ snapshot. snapshot ≡ self.now) }
-    {
-        Ok(Snapshot {
-            version: self.version,
-            program: self.program.copy()?,
-        })
     }
 }
