@@ -1,0 +1,155 @@
+ghost use Rattle.std.specs.Prelude.{◌≡◌, ◌≤◌};
+
+use crate::fault::Fault;
+use crate::image::{ADDRESSES, CELLS, CELLS_BEGIN, count_words};
+use crate::made::{Known, batch_of};
+use dt_cells::TableKind;
+use dt_colour::Colour;
+use dt_pages::Tree;
+use dt_row::Row;
+use dt_scratch::{Query, Reply};
+use dt_tables::Tabled;
+use std::io;
+
+// Two classes, and two selectors, each defined at a class of its own.
+const APART: [Known; 6] = [
+    Known::Class { number: 0 },
+    Known::Class { number: 1 },
+    Known::Selector { number: 0 },
+    Known::Selector { number: 1 },
+    Known::Define {
+        selector: 0,
+        class: 0,
+        body: 0,
+    },
+    Known::Define {
+        selector: 1,
+        class: 1,
+        body: 1,
+    },
+];
+
+// A class below both.
+const BELOW_BOTH: [Known; 1] = [Known::Below {
+    number: 2,
+    first: 0,
+    second: 1,
+}];
+
+// Two classes, and two selectors, both defined at the first class.
+const TOGETHER: [Known; 6] = [
+    Known::Class { number: 0 },
+    Known::Class { number: 1 },
+    Known::Selector { number: 0 },
+    Known::Selector { number: 1 },
+    Known::Define {
+        selector: 0,
+        class: 0,
+        body: 0,
+    },
+    Known::Define {
+        selector: 1,
+        class: 0,
+        body: 1,
+    },
+];
+
+// The first selector is defined at the second class, too.
+const AT_THE_SECOND: [Known; 1] = [Known::Define {
+    selector: 0,
+    class: 1,
+    body: 2,
+}];
+
+// Prints the words that are set of so many addresses from this one on.
+fn print_range(rt: &impl Print, tree: &Tree, first: u32, end: u32) -> io::Result<()> {
+    for at in first..end {
+        let word = if at < ADDRESSES { tree.word(at) } else { 0 };
+        if word != 0 {
+            println!(rt; "  {at} {word}")?;
+        }
+    }
+    Ok(())
+}
+
+// Prints the words that are set, and how many they are at all addresses.
+fn print_words(rt: &impl Print, name: &str, tree: &Tree) -> io::Result<()> {
+    let count = count_words(tree);
+    println!(rt; "{name} | words {count}")?;
+    print_range(rt, tree, 0, 12_288)?;
+    print_range(rt, tree, CELLS_BEGIN, CELLS_BEGIN + CELLS as u32)
+}
+
+// Commits the batch of these edits, and prints the words after it.
+fn show<K: TableKind, R: Print + AllocGlobal>(
+    rt: &R,
+    tabled: &mut Tabled<K>,
+    name: &str,
+    edits: &[Known],
+) -> Result<(), Fault> {
+    let batch = batch_of(rt.alloc(), edits)?;
+    if tabled.commit(&batch).is_err() {
+        println!(rt; "{name} | not committed")?;
+    }
+    print_words(rt, name, tabled.tree())?;
+    Ok(())
+}
+
+// Prints the replies to these queries of a selector and a class.
+fn print_replies<K: TableKind>(
+    rt: &impl Print,
+    tabled: &mut Tabled<K>,
+    queries: &[(u16, u16)],
+) -> io::Result<()> {
+    for (selector, class) in queries {
+        if let Some(query) = Query::new(*selector, &[*class]) {
+            let reply: Reply = tabled.reply(&query);
+            println!(rt; "  {query} | {reply}")?;
+        }
+    }
+    Ok(())
+}
+
+// Commits both batches, printing the words after each, and prints the replies to the queries.
+fn show_both<K: TableKind, R: Print + AllocGlobal>(
+    rt: &R,
+    tabled: &mut Tabled<K>,
+    first: (&str, &[Known]),
+    second: (&str, &[Known]),
+    queries: &[(u16, u16)],
+) -> Result<(), Fault> {
+    show(rt, tabled, first.0, first.1)?;
+    show(rt, tabled, second.0, second.1)?;
+    print_replies(rt, tabled, queries)?;
+    Ok(())
+}
+
+// A selector that moves to another colour.
+fn print_colours<R: Print + AllocGlobal>(rt: &R) -> Result<(), Fault> {
+    let mut tabled = Tabled::<Colour>::new(rt.alloc())?;
+    show_both(
+        rt,
+        &mut tabled,
+        ("colours, each class understands one selector", &APART),
+        ("colours, a class below understands both", &BELOW_BOTH),
+        &[(0, 2), (1, 2), (0, 1)],
+    )
+}
+
+// A selector that moves to another displacement.
+fn print_rows<R: Print + AllocGlobal>(rt: &R) -> Result<(), Fault> {
+    let mut tabled = Tabled::<Row>::new(rt.alloc())?;
+    show_both(
+        rt,
+        &mut tabled,
+        ("rows, a class understands both selectors", &TOGETHER),
+        ("rows, another understands the first", &AT_THE_SECOND),
+        &[(1, 1), (0, 0), (0, 1)],
+    )
+}
+
+/// Prints all words of two small programs, before and after a selector moves, and a few replies.
+pub fn print_worked<R: Print + AllocGlobal>(rt: &R) -> Result<(), Fault> {
+    print_colours(rt)?;
+    print_rows(rt)
+}
