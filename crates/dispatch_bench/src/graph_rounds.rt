@@ -42,21 +42,21 @@ impl GraphPlan {
 
 // A change of a graph.
 #[derive(Clone, Copy, Debug)]
-enum Change {
+enum LinkChange {
     Link { class: ClassNo, parent: ClassNo },
     Unlink { class: ClassNo, parent: ClassNo },
     Add { class: ClassNo },
     Drop { class: ClassNo },
 }
 
-impl Change {
+impl LinkChange {
     // Makes the change, and tells whether it was accepted.
     fn make(self, graph: &mut ClassGraph, shape: Shape) -> bool {
         match self {
-            Change::Link { class, parent } => graph.link(class, parent).is_ok(),
-            Change::Unlink { class, parent } => graph.unlink(class, parent).is_ok(),
-            Change::Add { class } => shape.add(graph, class).is_ok(),
-            Change::Drop { class } => graph.drop_class(class).is_ok(),
+            LinkChange::Link { class, parent } => graph.link(class, parent).is_ok(),
+            LinkChange::Unlink { class, parent } => graph.unlink(class, parent).is_ok(),
+            LinkChange::Add { class } => shape.add(graph, class).is_ok(),
+            LinkChange::Drop { class } => graph.drop_class(class).is_ok(),
         }
     }
 }
@@ -66,7 +66,7 @@ fn time_change(
     rt: &impl Clock,
     graph: &mut ClassGraph,
     shape: Shape,
-    change: Change,
+    change: LinkChange,
     mix: &mut Mix,
 ) -> Result<u64, Fault> {
     let watch = Stopwatch::start(rt)?;
@@ -79,7 +79,7 @@ fn time_change(
 // A change, and what is measured by it.
 #[derive(Clone, Copy, Debug)]
 struct Timed {
-    change: Change,
+    change: LinkChange,
     metric: Metric,
 }
 
@@ -131,17 +131,17 @@ fn time_middle(
     };
     let pair = Pair {
         there: Timed {
-            change: Change::Drop { class: parent },
+            change: LinkChange::Drop { class: parent },
             metric: Metric::DropMiddle,
         },
         back: Timed {
-            change: Change::Add { class: parent },
+            change: LinkChange::Add { class: parent },
             metric: Metric::AddMiddle,
         },
     };
-    Change::Unlink { class, parent }.make(graph, plan.shape);
+    LinkChange::Unlink { class, parent }.make(graph, plan.shape);
     time_changes(rt, table, graph, plan.shape, pair, mix)?;
-    Change::Link { class, parent }.make(graph, plan.shape);
+    LinkChange::Link { class, parent }.make(graph, plan.shape);
     Ok(())
 }
 
@@ -168,11 +168,11 @@ fn time_descendants(
 fn middle_pair(plan: GraphPlan) -> Option<Pair> {
     let (class, parent) = plan.shape.middle_link(plan.classes)?;
     let link = Timed {
-        change: Change::Link { class, parent },
+        change: LinkChange::Link { class, parent },
         metric: Metric::Link,
     };
     let unlink = Timed {
-        change: Change::Unlink { class, parent },
+        change: LinkChange::Unlink { class, parent },
         metric: Metric::Unlink,
     };
     if plan.shape == Shape::Star {
@@ -192,11 +192,11 @@ fn last_pair(plan: GraphPlan) -> Pair {
     let class = ClassNo::new(plan.classes - 1).unwrap();
     Pair {
         there: Timed {
-            change: Change::Drop { class },
+            change: LinkChange::Drop { class },
             metric: Metric::Drop,
         },
         back: Timed {
-            change: Change::Add { class },
+            change: LinkChange::Add { class },
             metric: Metric::Add,
         },
     }

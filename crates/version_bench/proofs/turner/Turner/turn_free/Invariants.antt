@@ -1,0 +1,6 @@
+use Rattle.std.proofs.Common.{◌≡◌}
+use Rattle.version_bench.specs.declared.known.Known.TheVariants as known
+use Rattle.version_bench.proofs.turner.Turner.turn_free.Given as goal
+
+abbrev pub invariant-loop-done : goal.invariant-loop-done
+invariant-loop-done l = (l.self.kept ≡ known.Free) × (l.self.author.store ≡ l.fn.self.author.store)

@@ -1,0 +1,2 @@
+-- What the author of a bench keeps.
+pub mod Turns

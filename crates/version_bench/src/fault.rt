@@ -1,0 +1,42 @@
+use dt_graph::NoMemory;
+use std::alloc::{AllocError, AllocFailed};
+use std::io;
+
+/// Why a run ended early.
+#[derive(Clone, Copy, Debug, PartialEq, Eq)]
+pub enum Fault {
+    /// Memory was wanted, and none was found.
+    NoMemory,
+    /// The clock or standard output failed.
+    Outside,
+    /// The store and the plain words came to different answers.
+    Differs,
+}
+
+impl From<NoMemory> for Fault {
+    fn from(_: NoMemory) -> Fault {
+        Fault::NoMemory
+    }
+}
+
+impl From<AllocError> for Fault {
+    fn from(_: AllocError) -> Fault {
+        Fault::NoMemory
+    }
+}
+
+impl<T: Drop> From<AllocFailed<T>> for Fault {
+    fn from(_: AllocFailed<T>) -> Fault {
+        Fault::NoMemory
+    }
+}
+
+impl From<io::Error> for Fault {
+    fn from(error: io::Error) -> Fault {
+        if error.kind() == io::ErrorKind::OutOfMemory {
+            Fault::NoMemory
+        } else {
+            Fault::Outside
+        }
+    }
+}

@@ -1,0 +1,54 @@
+ghost use Rattle.std.specs.Prelude.{◌<◌, length};
+
+use crate::fault::Fault;
+use std::fmt;
+use std::rt::Clock;
+use std::time::Instant;
+
+/// A number of thousandths, written with three decimals.
+#[derive(Clone, Copy, Debug, PartialEq, Eq, PartialOrd, Ord)]
+pub struct Thousandths {
+    /// How many thousandths.
+    pub count: u64,
+}
+
+impl fmt::Display for Thousandths {
+    fn fmt<W: fmt::Write>(&self, f: &mut fmt::Formatter<W>) -> fmt::Result {
+        let whole = self.count / 1000;
+        let part = self.count % 1000;
+        write!(f, "{whole}.{part:03}")
+    }
+}
+
+/// How many nanoseconds have gone by since.
+pub fn nanoseconds(rt: &impl Clock, start: &Instant) -> Result<u64, Fault> {
+    let time = start.elapsed(rt)?;
+    Ok(u64::try_from(time.as_nanos()).unwrap_or(u64::MAX))
+}
+
+/// The median, the least and the greatest of the figures of some rounds.
+#[derive(Clone, Copy, Debug)]
+pub struct Summary {
+    /// The one in the middle, or the upper one of the two.
+    pub median: Thousandths,
+    /// The least.
+    pub least: Thousandths,
+    /// The greatest.
+    pub greatest: Thousandths,
+}
+
+/// Sorts the figures, and sums them up.
+pub fn sum_up(figures: &mut [u64]) -> Summary
+    requires { 0 < length figures.old }
+{
+    figures.sort_unstable();
+    Summary {
+        median: Thousandths {
+            count: figures[figures.len() / 2],
+        },
+        least: Thousandths { count: figures[0] },
+        greatest: Thousandths {
+            count: figures[figures.len() - 1],
+        },
+    }
+}

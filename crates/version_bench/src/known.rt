@@ -1,0 +1,8 @@
+/// Where the root stands that is not current.
+#[derive(Clone, Copy, Debug, PartialEq, Eq)]
+pub enum Known {
+    /// It may be laid.
+    Free,
+    /// It was current, and this many entries were made into it.
+    Old(u32),
+}
