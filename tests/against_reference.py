@@ -5,7 +5,7 @@
 
 Each beginning of two scripts, scripts at the limits of the language, and COUNT scripts made by chance (300, where it isn't
 said), of which a third is broken somewhere: what the program prints and the status with which it ends have to be the
-same. Prints what differs, and as its last line how many passed.
+same. The four tables take turns. Prints what differs, and as its last line how many passed.
 """
 
 import argparse
@@ -18,6 +18,7 @@ from pathlib import Path
 import reference
 
 FOLDER = Path(__file__).parent
+TABLES = ("sti", "colour", "row", "mrd")
 
 
 class Comparison:
@@ -29,13 +30,14 @@ class Comparison:
     def compare(self, name, data, readers=8, wanted=None):
         """Runs both on the script, or the program alone where it is known what it has to print."""
         text, status = wanted or reference.run(data, readers)
-        words = ["run", "--table", "sti"] + ([] if readers == 8 else ["--readers", str(readers)])
+        table = TABLES[(self.passed + self.failed) % len(TABLES)]
+        words = ["run", "--table", table] + ([] if readers == 8 else ["--readers", str(readers)])
         ran = subprocess.run([self.program, *words], input=data, capture_output=True, check=False)
         if (ran.stdout, ran.returncode, ran.stderr) == (text.encode(), status, b""):
             self.passed += 1
             return
         self.failed += 1
-        print(f"{name}: status {ran.returncode}, expected {status}")
+        print(f"{name}, table {table}: status {ran.returncode}, expected {status}")
         got, want = ran.stdout.decode(errors="replace").split("\n"), text.split("\n")
         for number, (one, other) in enumerate(zip(got, want), 1):
             if one != other:
