@@ -1,18 +1,11 @@
-use Rattle.std.proofs.Common.{rules, ◌≡◌, ◌+◌, ◌*◌, ◌<◌, [], ap, subst, sym, refl, ◌∙◌, length, arith}
-use mathlib.Core.Option.{none}
+use Rattle.std.proofs.Common.{ap, subst, sym, refl, ◌∙◌, arith}
 use mathlib.Core.List.{IsPrefix}
-use Rattle.atomic_table.specs.Table.{step}
-use Rattle.dt_gate.specs.declared.gate.Stage.TheVariants.{Note}
-use Rattle.dt_gate.specs.Author.{after_hear}
-use Rattle.dt_gate.specs.Seats.{given, after_hearing}
-use Rattle.dt_version.specs.Views.{seat_of, seat_shown, author_of, author_shown, given_by, with_note_back, is_note}
-use Rattle.dt_version.specs.Told.{AuthorHeard}
-use Rattle.dt_version.proofs.Seats.{reader_me, reader_view, reader_of}
+use Rattle.dt_gate.specs.Seats.{after_hearing}
+use Rattle.dt_version.specs.Views.{seat_of, seat_shown, with_note_back}
+use Rattle.dt_version.proofs.Seats.{reader_view}
 use Rattle.dt_version.proofs.Steps.{reader_hears}
 use Rattle.dt_version.proofs.Calls.{play_tells, heard_is, kept, reading_is, note_is}
-use Rattle.dt_version.proofs.AuthorSteps.{author_view, author_is_of, hears}
-use Rattle.dt_version.proofs.AuthorCalls.{hear_is}
-use Rattle.dt_version.proofs.Giving.{gives_a_note, reader_gives_a_note, takes_a_note, reader_takes_a_note}
+use Rattle.dt_version.proofs.Giving.{reader_takes_a_note}
 use Rattle.dt_version.proofs.reader_seat.ReaderSeat.hear.Goals as goal
 
 pub join_seat-requires : goal.join_seat-requires
