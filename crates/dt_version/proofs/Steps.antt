@@ -27,6 +27,7 @@ use Rattle.dt_version.specs.Limits.{bounds}
 use Rattle.dt_version.specs.Views.{view_at, view_of, views_of}
 use Rattle.dt_version.specs.Rule.{IsRunning, Holds}
 use Rattle.dt_version.specs.Told.{ReaderIsTold, ReaderPlays}
+use Rattle.dt_version.specs.Laws.{IsOneEvent}
 use Rattle.dt_version.proofs.Lists.{set_self, map-set}
 use Rattle.dt_version.proofs.Seats.{reader_found}
 
@@ -42,6 +43,15 @@ module _ {M I : Type 0} (shows : Reading → List I → Type 0) (laws : LawsOfRu
     in_range = running.in_range;
     empty = running.empty;
     reached = laws.goes_on (bounds size) gate event running.reached allowed;
+  }
+
+  -- an allowed event of a gate that runs is one access, and leads to a sound gate
+  pub one_event : (gate : Gate M I) (event : Event M I) → IsRunning shows size gate → IsAllowed shows (bounds size) gate event
+      → IsOneEvent shows size gate event
+  one_event gate event running allowed = let after = runs_on gate event running allowed in record {
+    access = laws.accesses (bounds size) running.in_range running.empty gate event running.reached allowed;
+    runs = after;
+    sound = laws.sound (bounds size) after.in_range after.empty (step (bounds size) gate event) after.reached;
   }
 
   -- an event of a seat: it is allowed, its access is the step, and it changes this seat alone

@@ -1,8 +1,9 @@
 -- Worked examples: the words and views of small stores, and runs of two readers.
-use Rattle.std.specs.Prelude.{◌≡◌, ℕ, ◌+◌, List, [], ◌∷◌, ◌++◌, length, take, refl}
+use Rattle.std.specs.Prelude.{◌≡◌, ℕ, List, [], ◌∷◌, ◌++◌, length, take, refl}
+use Rattle.atomic_table.specs.Table.{State}
 use Rattle.dt_gate.specs.declared.event.Event.{Event}
-use Rattle.dt_gate.specs.declared.event.Event.TheVariants.{Look, Enter, Read, Leave, Publish, SeatOut, SeatBack}
-use Rattle.dt_gate.specs.declared.event.ReadWord.TheVariants.{Version, Top, Page}
+use Rattle.dt_gate.specs.declared.event.Event.TheVariants.{Look, Enter, Read, Leave, SeatOut, SeatBack}
+use Rattle.dt_gate.specs.declared.event.ReadWord.TheVariants.{Top, Page}
 use Rattle.dt_gate.specs.declared.gate.Gate.{Gate}
 use Rattle.dt_gate.specs.declared.gate.Stage.TheVariants.{Out}
 use Rattle.dt_gate.specs.Gate.{fresh, fresh_author, seat_at}
@@ -12,9 +13,11 @@ use Rattle.dt_gate.specs.Seats.{given}
 use Rattle.dt_gate.specs.WrongMachines.{small, start}
 use Rattle.dt_gate.specs.Examples.{filled_and_published}
 use Rattle.dt_version.specs.declared.view.Size.{Size}
+use Rattle.dt_version.specs.declared.view.View.{View}
 use Rattle.dt_version.specs.declared.view.View.TheVariants as view
 use Rattle.dt_version.specs.Limits.{bounds, word_count}
-use Rattle.dt_version.specs.Views.{views_of}
+use Rattle.dt_version.specs.Views.{views_of, after_out, given_by, with_seat_back}
+use Rattle.dt_version.specs.Laws.{cut, joined}
 
 -- one reader, sixteen pages, a limit of one entry; and two readers with a limit of five
 abbrev one : Size
@@ -87,3 +90,18 @@ and_on_to_page_3 = refl
 
 which_has_the_word : found (access_of small inside (Read 0 (Page 3 0))) (words_of inside) ≡ 1
 which_has_the_word = refl
+
+-- ---- a seat goes out and comes back: the views are cut and joined, and are those of the gate after each event
+
+-- a table that shows this gate
+abbrev table_of : Gate ℕ ℕ → State ℕ (View ℕ ℕ)
+table_of gate = record { words = words_of gate; homes = []; views = views_of two gate }
+
+abbrev one_out : Gate ℕ ℕ
+one_out = gate_after (bounds two) (fresh (bounds two)) (SeatOut ∷ [])
+
+a_seat_goes_out : cut (table_of (fresh (bounds two))) 0 (after_out (view.Author two (fresh_author (bounds two)))) (given_by Out (view.Author two (fresh_author (bounds two)))) ≡ table_of one_out
+a_seat_goes_out = refl
+
+a_seat_comes_back : joined (table_of one_out) 0 (with_seat_back (view.Author two one_out.author) (view.Reader two (given Out []))) 1 ≡ table_of (gate_after (bounds two) one_out (SeatBack 0 ∷ []))
+a_seat_comes_back = refl
