@@ -1,6 +1,8 @@
 -- Worked examples: the words and views of small stores, and runs of two readers.
-use Rattle.std.specs.Prelude.{◌≡◌, ℕ, List, [], ◌∷◌, ◌++◌, length, take, refl}
-use Rattle.atomic_table.specs.Table.{State}
+use Rattle.std.specs.Prelude.{◌≡◌, ℕ, List, [], ◌∷◌, ◌++◌, length, take, slice_set, refl}
+use mathlib.Core.Option.{some}
+use lib.ListN.{get_elem?}
+use Rattle.atomic_table.specs.Table.{State, Splits, Joins}
 use Rattle.dt_gate.specs.declared.event.Event.{Event}
 use Rattle.dt_gate.specs.declared.event.Event.TheVariants.{Look, Enter, Read, Leave, SeatOut, SeatBack}
 use Rattle.dt_gate.specs.declared.event.ReadWord.TheVariants.{Top, Page}
@@ -105,3 +107,13 @@ a_seat_goes_out = refl
 
 a_seat_comes_back : joined (table_of one_out) 0 (with_seat_back (view.Author two one_out.author) (view.Reader two (given Out []))) 1 ≡ table_of (gate_after (bounds two) one_out (SeatBack 0 ∷ []))
 a_seat_comes_back = refl
+
+-- the table asks of a split that the rule holds when the view was cut, and of a join when the views were joined
+a_cut_is_a_split : (holds : State ℕ (View ℕ ℕ) → Type 0) (id : ℕ) (me left right : View ℕ ℕ)
+    → Splits holds id me left right ≡ ((state : State ℕ (View ℕ ℕ)) → holds state → get_elem? state.views id ≡ some me → holds (cut state id left right))
+a_cut_is_a_split holds id me left right = refl
+
+a_join_is_joined : (holds : State ℕ (View ℕ ℕ) → Type 0) (id other : ℕ) (me him both : View ℕ ℕ)
+    → Joins holds id me other him both view.Gone ≡ ((state : State ℕ (View ℕ ℕ)) → holds state → get_elem? state.views id ≡ some me → ¬ (other ≡ id)
+    → get_elem? (slice_set state.views id both) other ≡ some him → holds (joined state id both other))
+a_join_is_joined holds id other me him both = refl
