@@ -1,6 +1,7 @@
 #!/bin/sh
-# Times look-ups and edits of generated programs of three sizes, graphs of three shapes, and selectors of many definitions. Each line it prints is
-# NAME SIZE | METRIC | UNIT | MEDIAN | LEAST | GREATEST, over 21 rounds. Run it on a machine that does nothing else.
+# Times look-ups and edits of generated programs of three sizes, from scratch and with tables of each kind, graphs of three
+# shapes, and selectors of many definitions. Each line it prints is NAME SIZE | METRIC | UNIT | MEDIAN | LEAST | GREATEST, over
+# 21 rounds. Run it on a machine that does nothing else.
 set -eu
 top=$(cd "$(dirname "$0")/.." && pwd)
 crate=$top/crates/dispatch_bench

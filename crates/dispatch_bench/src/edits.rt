@@ -5,12 +5,15 @@ use crate::generator::{BATCH, definition_count, draw_class_edit, put};
 use crate::size::Size;
 use crate::work::{apply_all, try_edit};
 use dt_definitions::{
-    Batch, BodyNo, CLASSES, ClassNo, Edit, NoMemory, Parents, Program, SelNo, Tuple,
+    Batch, BodyNo, CLASSES, ClassGraph, ClassNo, Edit, NoMemory, Parents, Program, SelNo, Tuple,
 };
 use std::alloc::Global;
 
 // How many edits of a kind are drawn.
 const EDITS: u16 = 50;
+
+// How many definitions are drawn at most to find one at classes with none below them.
+const TRIES: u32 = 64;
 
 /// Edits that are accepted one after another, and the edits that undo them.
 #[derive(Drop)]
@@ -160,17 +163,48 @@ pub fn undefines(
     keep_accepted(alloc, program, edits)
 }
 
-/// Definitions where there is one, each by a body of its own.
+// Whether no class is below one of these.
+fn are_leaves(graph: &ClassGraph, classes: &Tuple) -> bool {
+    classes
+        .classes()
+        .iter()
+        .all(|class| graph.below_count(*class) == 1)
+}
+
+// Draws a definition whose classes have none below them.
+fn draw_at_leaves(
+    draws: &mut Draws,
+    size: Size,
+    batches: &[Batch],
+    graph: &ClassGraph,
+) -> Option<(SelNo, Tuple, BodyNo)> {
+    for _ in 0..TRIES {
+        if let Some(defined) = draw_defined(draws, size, batches)
+            && are_leaves(graph, &defined.1)
+        {
+            return Some(defined);
+        }
+    }
+    None
+}
+
+/// Definitions where there is one, each by a body of its own: any of them, or only those at classes with none below them.
 pub fn redefines(
     alloc: Global,
     draws: &mut Draws,
     size: Size,
     batches: &[Batch],
     program: &mut Program,
+    only_leaves: bool,
 ) -> Result<Trial, NoMemory> {
     let mut edits = Vec::new(alloc);
     for number in 0..EDITS {
-        if let Some((selector, classes, _)) = draw_defined(draws, size, batches) {
+        let drawn = if only_leaves {
+            draw_at_leaves(draws, size, batches, program.graph())
+        } else {
+            draw_defined(draws, size, batches)
+        };
+        if let Some((selector, classes, _)) = drawn {
             let body = BodyNo::new(definition_count(size) + number);
             edits.push(Edit::Define {
                 selector,

@@ -1,12 +1,18 @@
 //! The program `dispatch_bench`: what look-ups and edits cost, on generated programs and on graphs of a few shapes.
 //!
 //! With no words it prints what tiny programs and small graphs come to, and times nothing. `bench N C S` times the
-//! generated program of the number N with C classes and S selectors, `graph SHAPE C` a graph of C classes that is a
-//! `chain`, a `star` or `diamonds`, and `selector D` a selector of two arguments with D definitions, at most 3,600. Each
-//! line of figures is `NAME SIZE | METRIC | UNIT | MEDIAN | LEAST | GREATEST`, over 21 rounds.
+//! generated program of the number N with C classes and S selectors, from scratch and with tables, `graph SHAPE C` a
+//! graph of C classes that is a `chain`, a `star` or `diamonds`, and `selector D` a selector of two arguments with D
+//! definitions, at most 3,600. Each line of figures is `NAME SIZE | METRIC | UNIT | MEDIAN | LEAST | GREATEST`, over 21
+//! rounds. `occupancy N C S` times nothing: of the table of each kind it prints for every 2,048 cells how many have an
+//! answer, `NAME SIZE | BLOCK | CELLS`, up to the last block in use.
 #![tactic(auto)]
 
+ghost use Rattle.std.specs.Prelude.{◌≤◌};
+
+mod difference_rounds;
 mod draws;
+mod edit_kind;
 mod edits;
 mod fault;
 mod figures;
@@ -14,20 +20,30 @@ mod generator;
 mod graph_rounds;
 mod metric;
 mod mix;
+mod occupancy;
 mod program_rounds;
 mod queries;
 mod selector_rounds;
 mod shape;
+mod single_edits;
 mod size;
+mod sized_programs;
 mod stopwatch;
 mod table;
+mod table_rounds;
+mod table_space;
 mod tiny;
 mod trial_rounds;
 mod words;
 mod work;
 
+use dt_cells::TableKind;
+use dt_colour::Colour;
+use dt_row::Row;
+use dt_sti::Sti;
 use fault::Fault;
 use graph_rounds::{GraphPlan, time_graph};
+use occupancy::print_occupancy;
 use program_rounds::time_program;
 use selector_rounds::time_selector;
 use size::Size;
@@ -36,6 +52,7 @@ use std::env;
 use std::process::ExitCode;
 use std::rt::{Clock, Env, Files};
 use table::Table;
+use table_rounds::time_tables;
 use tiny::print_counts;
 use words::{Command, read_command};
 
@@ -48,8 +65,18 @@ fn given_words<R: Env + AllocGlobal>(rt: &R) -> Result<Vec<String>, Fault> {
     Ok(words)
 }
 
-// Times a generated program, and prints the figures under this name.
-fn print_program<R: Print + Clock + Files + AllocGlobal>(
+// The name of the figures of a generated program, after the word for how its calls are answered.
+fn program_name(alloc: Global, word: &str, size: Size) -> Result<String, Fault> {
+    let Size {
+        classes,
+        selectors,
+        ..
+    } = size;
+    Ok(format!(in alloc; "engine-{word} {classes}/{selectors}")?)
+}
+
+// Times a generated program from scratch, and prints the figures under this name.
+fn print_scratch<R: Print + Clock + Files + AllocGlobal>(
     rt: &R,
     name: &str,
     number: u64,
@@ -59,6 +86,76 @@ fn print_program<R: Print + Clock + Files + AllocGlobal>(
     time_program(rt, &mut table, number, size)?;
     table.print(rt, name)?;
     Ok(())
+}
+
+// Times a generated program with tables of this kind, and prints the figures under this name.
+fn print_tables<R: Print + Clock + AllocGlobal, K: TableKind>(
+    rt: &R,
+    name: &str,
+    number: u64,
+    size: Size,
+) -> Result<(), Fault>
+    requires { 1 ≤ K.kind.most_low }
+{
+    let mut table = Table::new(rt.alloc());
+    time_tables::<R, K>(rt, &mut table, number, size)?;
+    table.print(rt, name)?;
+    Ok(())
+}
+
+// Times a generated program with tables of this kind, and prints the figures under a name of this word.
+fn print_kind<R: Print + Clock + AllocGlobal, K: TableKind>(
+    rt: &R,
+    word: &str,
+    number: u64,
+    size: Size,
+) -> Result<(), Fault>
+    requires { 1 ≤ K.kind.most_low }
+{
+    let name = program_name(rt.alloc(), word, size)?;
+    print_tables::<R, K>(rt, name.as_str(), number, size)
+}
+
+// Times a generated program with tables of each kind.
+fn print_kinds<R: Print + Clock + AllocGlobal>(
+    rt: &R,
+    number: u64,
+    size: Size,
+) -> Result<(), Fault> {
+    print_kind::<R, Sti>(rt, "sti", number, size)?;
+    print_kind::<R, Colour>(rt, "colour", number, size)?;
+    print_kind::<R, Row>(rt, "row", number, size)
+}
+
+// Prints the occupancy of the table of this kind.
+fn print_occupied<R: Print + AllocGlobal, K: TableKind>(
+    rt: &R,
+    word: &str,
+    number: u64,
+    size: Size,
+) -> Result<(), Fault>
+    requires { 1 ≤ K.kind.most_low }
+{
+    let name = program_name(rt.alloc(), word, size)?;
+    print_occupancy::<R, K>(rt, name.as_str(), number, size)
+}
+
+// Prints the occupancy of the table of each kind.
+fn print_occupancies<R: Print + AllocGlobal>(rt: &R, number: u64, size: Size) -> Result<(), Fault> {
+    print_occupied::<R, Sti>(rt, "sti", number, size)?;
+    print_occupied::<R, Colour>(rt, "colour", number, size)?;
+    print_occupied::<R, Row>(rt, "row", number, size)
+}
+
+// Times a generated program, from scratch and with tables.
+fn print_program<R: Print + Clock + Files + AllocGlobal>(
+    rt: &R,
+    number: u64,
+    size: Size,
+) -> Result<(), Fault> {
+    let name = program_name(rt.alloc(), "scratch", size)?;
+    print_scratch(rt, name.as_str(), number, size)?;
+    print_kinds(rt, number, size)
 }
 
 // Times a graph, and prints the figures under this name.
@@ -85,16 +182,6 @@ fn print_selector<R: Print + Clock + AllocGlobal>(
     Ok(())
 }
 
-// The name of the figures of a generated program.
-fn program_name(alloc: Global, size: Size) -> Result<String, Fault> {
-    let Size {
-        classes,
-        selectors,
-        ..
-    } = size;
-    Ok(format!(in alloc; "engine-scratch {classes}/{selectors}")?)
-}
-
 // The name of the figures of a graph.
 fn graph_name(alloc: Global, plan: GraphPlan) -> Result<String, Fault> {
     let word = plan.shape.word();
@@ -112,9 +199,8 @@ fn run<R: Print + Clock + Files + Env + AllocGlobal>(rt: &R) -> Result<bool, Fau
     let words = given_words(rt)?;
     match read_command(&words) {
         Some(Command::Count) => print_counts(rt)?,
-        Some(Command::Program { number, size }) => {
-            print_program(rt, program_name(rt.alloc(), size)?.as_str(), number, size)?;
-        }
+        Some(Command::Program { number, size }) => print_program(rt, number, size)?,
+        Some(Command::Occupancy { number, size }) => print_occupancies(rt, number, size)?,
         Some(Command::Graph { plan }) => {
             print_graph(rt, graph_name(rt.alloc(), plan)?.as_str(), plan)?;
         }
@@ -127,7 +213,7 @@ fn run<R: Print + Clock + Files + Env + AllocGlobal>(rt: &R) -> Result<bool, Fau
         }
         None => {
             println!(rt;
-                "usage: dispatch_bench\n       dispatch_bench bench N C S\n       dispatch_bench graph chain|star|diamonds C\n       dispatch_bench selector D"
+                "usage: dispatch_bench\n       dispatch_bench bench N C S\n       dispatch_bench occupancy N C S\n       dispatch_bench graph chain|star|diamonds C\n       dispatch_bench selector D"
             )?;
             return Ok(false);
         }

@@ -1,5 +1,8 @@
 ghost use Rattle.std.specs.Prelude.{◌<◌};
 
+use crate::edit_kind::EditKind;
+use std::fmt;
+
 /// The unit of a metric's figures.
 #[derive(Clone, Copy, Debug, PartialEq, Eq)]
 pub enum Unit {
@@ -11,6 +14,8 @@ pub enum Unit {
     Milliseconds,
     /// Millions of bytes.
     Megabytes,
+    /// So many for each edit.
+    Each,
     /// No unit: the figures are whole numbers.
     Number,
 }
@@ -23,6 +28,7 @@ impl Unit {
             Unit::Microseconds => "us",
             Unit::Milliseconds => "ms",
             Unit::Megabytes => "MB",
+            Unit::Each => "each",
             Unit::Number => "number",
         }
     }
@@ -34,7 +40,7 @@ impl Unit {
         match self {
             Unit::Microseconds => 1_000,
             Unit::Milliseconds => 1_000_000,
-            Unit::Nanoseconds | Unit::Megabytes | Unit::Number => 1,
+            Unit::Nanoseconds | Unit::Megabytes | Unit::Each | Unit::Number => 1,
         }
     }
 }
@@ -88,13 +94,33 @@ pub enum Metric {
     AddMiddle,
     /// The classes below a class.
     Descendants,
+    /// A look-up over a table with one argument that a method answers.
+    FindHits,
+    /// A look-up over a table with one argument, drawn as the generator draws calls.
+    FindRandom,
+    /// The changes of an edit are found.
+    Changes { kind: EditKind },
+    /// A batch of one edit is committed: to the program, and to its table.
+    Commit { kind: EditKind },
+    /// How many cells an edit changes.
+    ChangeCount { kind: EditKind },
+    /// How many answers are found to find these cells.
+    StepCount { kind: EditKind },
+    /// The program and its table are made by its batches.
+    LoadTables,
+    /// The cells of a table that have an answer.
+    CellsUsed,
+    /// The cells of a table up to the last that has an answer.
+    CellsSpanned,
+    /// The greatest place of a selector, counted from 1.
+    HighestPlace,
     /// What the answers of a round come to, the same in each round.
     Mix,
 }
 
 impl Metric {
-    /// The words that are printed.
-    pub fn words(self) -> &'static str {
+    // The words that are printed, but for those of a kind of edits.
+    fn words(self) -> &'static str {
         match self {
             Metric::HitsOfOne => "resolve k1 hits",
             Metric::RandomOfOne => "resolve k1 random",
@@ -119,7 +145,28 @@ impl Metric {
             Metric::DropMiddle => "drop in the middle",
             Metric::AddMiddle => "add in the middle",
             Metric::Descendants => "descendants",
+            Metric::FindHits => "find k1 hits",
+            Metric::FindRandom => "find k1 random",
+            Metric::Changes { .. } => "changes",
+            Metric::Commit { .. } => "commit",
+            Metric::ChangeCount { .. } => "number of changes",
+            Metric::StepCount { .. } => "number of steps",
+            Metric::LoadTables => "load tables",
+            Metric::CellsUsed => "cells used",
+            Metric::CellsSpanned => "cells spanned",
+            Metric::HighestPlace => "highest place",
             Metric::Mix => "mix",
+        }
+    }
+
+    // The kind of the edits that are measured, where the words don't say it.
+    fn kind(self) -> Option<EditKind> {
+        match self {
+            Metric::Changes { kind }
+            | Metric::Commit { kind }
+            | Metric::ChangeCount { kind }
+            | Metric::StepCount { kind } => Some(kind),
+            _ => None,
         }
     }
 
@@ -129,10 +176,26 @@ impl Metric {
             Metric::HitsOfOne | Metric::RandomOfOne | Metric::HitsOfTwo | Metric::IsBelow => {
                 Unit::Nanoseconds
             }
-            Metric::Load => Unit::Milliseconds,
+            Metric::FindHits | Metric::FindRandom => Unit::Nanoseconds,
+            Metric::ChangeCount { .. } | Metric::StepCount { .. } => Unit::Each,
+            Metric::Load | Metric::LoadTables => Unit::Milliseconds,
             Metric::Memory => Unit::Megabytes,
+            Metric::CellsUsed | Metric::CellsSpanned | Metric::HighestPlace => Unit::Number,
             Metric::Mix => Unit::Number,
             _ => Unit::Microseconds,
+        }
+    }
+}
+
+impl fmt::Display for Metric {
+    fn fmt<W: fmt::Write>(&self, f: &mut fmt::Formatter<W>) -> fmt::Result {
+        let words = self.words();
+        match self.kind() {
+            Some(kind) => {
+                let kind = kind.words();
+                write!(f, "{words} {kind}")
+            }
+            None => f.write_str(words),
         }
     }
 }

@@ -70,7 +70,7 @@ impl Defining {
     ) -> Result<Defining, NoMemory> {
         Ok(Defining {
             undefines: undefines(alloc, draws, size, batches, program)?,
-            redefines: redefines(alloc, draws, size, batches, program)?,
+            redefines: redefines(alloc, draws, size, batches, program, false)?,
         })
     }
 
@@ -149,8 +149,8 @@ impl Workload {
     }
 }
 
-// How many operations a list has.
-fn operations<T>(list: &Vec<T>) -> u32 {
+/// How many operations a list has.
+pub fn operations<T>(list: &Vec<T>) -> u32 {
     u32::try_from(list.len()).unwrap_or(u32::MAX)
 }
 
@@ -168,8 +168,8 @@ fn memory<R: Files + AllocGlobal>(rt: &R) -> Result<u64, Fault> {
     }
 }
 
-// Times the queries.
-fn time_queries(
+/// Times the queries, each found from scratch.
+pub fn time_queries(
     rt: &impl Clock,
     table: &mut Table,
     metric: Metric,

@@ -9,7 +9,8 @@ use std::io;
 // Where a further line comes from: its words and unit are a variant of `Metric`; what it asks or edits is drawn once, in a
 // field of `Asked`, `Defining` or `Linking`, or a struct of its own beside them in `Workload`; and each round times it, in
 // `time_lookups`, `time_defining`, `time_linking` or a function of its own that `time_round` calls (of a graph:
-// `graph_rounds::time_round`). The table needs nothing: a metric has its line, in its place, from its first figure on.
+// `graph_rounds::time_round`). A kind of edits that is timed with tables is a variant of `EditKind`, drawn in
+// `single_edits`. The table needs nothing: a metric has its line, in its place, from its first figure on.
 
 // The figures of one metric, one for each round.
 #[derive(Drop)]
@@ -27,7 +28,6 @@ pub struct Table {
 
 // Prints a line: the name, the metric, its unit, and the median, the least and the greatest figure.
 fn print_line(rt: &impl Print, name: &str, metric: Metric, summary: &Summary) -> io::Result<()> {
-    let words = metric.words();
     let unit = metric.unit().word();
     if metric.unit() == Unit::Number {
         let Summary {
@@ -35,7 +35,7 @@ fn print_line(rt: &impl Print, name: &str, metric: Metric, summary: &Summary) ->
             least,
             greatest,
         } = *summary;
-        return println!(rt; "{name} | {words} | {unit} | {median} | {least} | {greatest}");
+        return println!(rt; "{name} | {metric} | {unit} | {median} | {least} | {greatest}");
     }
     let median = Thousandths {
         count: summary.median,
@@ -46,7 +46,7 @@ fn print_line(rt: &impl Print, name: &str, metric: Metric, summary: &Summary) ->
     let greatest = Thousandths {
         count: summary.greatest,
     };
-    println!(rt; "{name} | {words} | {unit} | {median} | {least} | {greatest}")
+    println!(rt; "{name} | {metric} | {unit} | {median} | {least} | {greatest}")
 }
 
 impl Row {

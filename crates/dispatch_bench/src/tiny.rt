@@ -1,3 +1,4 @@
+use crate::difference_rounds::{Found, count_all_changes, load_sized};
 use crate::draws::Draws;
 use crate::fault::Fault;
 use crate::figures::Thousandths;
@@ -6,6 +7,7 @@ use crate::mix::{Mix, code_of};
 use crate::program_rounds::Workload;
 use crate::queries::is_hit;
 use crate::shape::Shape;
+use crate::single_edits::{SingleEdits, draw_single_edits};
 use crate::size::Size;
 use crate::work::load;
 use dt_definitions::{Batch, NoMemory, Program};
@@ -79,6 +81,36 @@ fn count(alloc: Global, number: u64, size: Size) -> Result<Counts, NoMemory> {
     count_batches(alloc, &mut draws, size, &batches)
 }
 
+// Draws edits of each kind for the program of these batches.
+fn draw_edits(
+    alloc: Global,
+    draws: &mut Draws,
+    size: Size,
+    batches: &[Batch],
+) -> Result<Vec<SingleEdits>, NoMemory> {
+    let mut program = load(alloc, batches)?;
+    draw_single_edits(alloc, draws, size, batches, &mut program)
+}
+
+// Finds what these edits of the program of these batches change, and what undoes them.
+fn find_changes(alloc: Global, batches: &[Batch], all: &[SingleEdits]) -> Result<Found, NoMemory> {
+    let mut programs = load_sized(alloc, batches)?;
+    let mut found = Found::none();
+    for edits in all {
+        count_all_changes(&mut programs, &edits.batches, &mut found)?;
+        count_all_changes(&mut programs, &edits.undo, &mut found)?;
+    }
+    Ok(found)
+}
+
+// Finds what edits that are drawn change in the generated program of this number and size.
+fn draw_changes(alloc: Global, number: u64, size: Size) -> Result<Found, NoMemory> {
+    let mut draws = Draws::new(number);
+    let batches = draw_program(alloc, &mut draws, size)?;
+    let edits = draw_edits(alloc, &mut draws, size, &batches)?;
+    find_changes(alloc, &batches, &edits)
+}
+
 // Prints the first draws from 1, and how figures are written.
 fn print_draws(rt: &impl Print) -> io::Result<()> {
     let mut draws = Draws::new(1);
@@ -109,6 +141,16 @@ fn print_program<R: Print + AllocGlobal>(rt: &R, number: u64, size: Size) -> Res
     Ok(())
 }
 
+// Prints what edits of a tiny program change.
+fn print_changes<R: Print + AllocGlobal>(rt: &R, number: u64, size: Size) -> Result<(), Fault> {
+    let found = draw_changes(rt.alloc(), number, size)?;
+    let (edits, changes, steps) = (found.edits, found.changes, found.steps);
+    println!(rt;
+        "changes of program {number} | edits {edits} | changes {changes} | steps {steps}"
+    )?;
+    Ok(())
+}
+
 // Prints what a small graph comes to: how many classes are at or below the one in the middle, and whether its link in
 // the middle is there.
 fn print_graph<R: Print + AllocGlobal>(rt: &R, shape: Shape) -> Result<(), Fault> {
@@ -127,6 +169,7 @@ fn print_programs<R: Print + AllocGlobal>(rt: &R) -> Result<(), Fault> {
     for (number, classes, selectors) in [(1, 20, 10), (7, 60, 120)] {
         if let Some(size) = Size::new(classes, selectors) {
             print_program(rt, number, size)?;
+            print_changes(rt, number, size)?;
         }
     }
     Ok(())

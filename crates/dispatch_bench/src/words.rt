@@ -10,6 +10,8 @@ pub enum Command {
     Count,
     /// The figures of the generated program of this number and size.
     Program { number: u64, size: Size },
+    /// The occupancy of the tables of the generated program of this number and size.
+    Occupancy { number: u64, size: Size },
     /// The figures of a graph.
     Graph { plan: GraphPlan },
     /// The figures of a selector with so many definitions, at most [`MOST`].
@@ -27,6 +29,12 @@ fn number(word: &str) -> Option<u64> {
 // The number that the word is, where 16 bits hold it.
 fn small(word: &str) -> Option<u16> {
     u16::try_from(number(word)?).ok()
+}
+
+// The number and the size of a generated program.
+fn generated(n: &str, classes: &str, selectors: &str) -> Option<(u64, Size)> {
+    let size = Size::new(small(classes)?, small(selectors)?)?;
+    Some((number(n)?, size))
 }
 
 // The shape of this word.
@@ -56,11 +64,12 @@ pub fn read_command(words: &[String]) -> Option<Command> {
             Some(Command::Selector { definitions })
         }
         [word, n, classes, selectors] if word.as_str() == "bench" => {
-            let size = Size::new(small(classes.as_str())?, small(selectors.as_str())?)?;
-            Some(Command::Program {
-                number: number(n.as_str())?,
-                size,
-            })
+            let (number, size) = generated(n.as_str(), classes.as_str(), selectors.as_str())?;
+            Some(Command::Program { number, size })
+        }
+        [word, n, classes, selectors] if word.as_str() == "occupancy" => {
+            let (number, size) = generated(n.as_str(), classes.as_str(), selectors.as_str())?;
+            Some(Command::Occupancy { number, size })
         }
         _ => None,
     }
