@@ -1,9 +1,7 @@
-use crate::chance::Chance;
-use crate::fault::Fault;
-use crate::put::{is_applied, put};
 use crate::small::{CLASS_NUMBERS, SELECTOR_NUMBERS, draw_class, draw_selector};
 use arrayvec::ArrayVec;
 use dt_definitions::{Arity, Batch, BodyNo, ClassNo, Edit, Parents, Program, SelNo, Tuple};
+use dt_trials::{Chance, Fault, is_applied, put};
 use std::alloc::Global;
 
 // How many bodies there are.

@@ -1,11 +1,11 @@
 ghost use Rattle.std.specs.Prelude.{◌≡◌, Ok};
 ghost use Rattle.dt_definitions.specs.Step.{step_batch};
 
-use crate::fault::Fault;
 use dt_definitions::{Batch, BatchFault, Program, TwoPrograms};
 use dt_graph::Steps;
 use dt_propagate::{ChangeFault, Sizes, changes_counted};
 use dt_scratch::Change;
+use dt_trials::Fault;
 use std::alloc::Global;
 use std::marker::Model;
 use std::sync::ledger::Ledger;

@@ -1,10 +1,10 @@
 use crate::editor::{Editor, Told};
-use crate::fault::Fault;
 use crate::scenes::{Base, Known, base_of, batch_of};
 use dt_definitions::Batch;
 use dt_graph::Steps;
 use dt_propagate::ChangeFault;
 use dt_scratch::Change;
+use dt_trials::Fault;
 use std::io;
 use std::sync::ledger::Ledger;
 

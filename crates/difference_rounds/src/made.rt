@@ -1,7 +1,6 @@
-use crate::fault::Fault;
-use crate::put::put;
 use arrayvec::ArrayVec;
 use dt_definitions::{Arity, Batch, BodyNo, ClassNo, Edit, Parents, SelNo, Tuple};
+use dt_trials::{Fault, put};
 use std::alloc::Global;
 
 // The class of this number.

@@ -5,19 +5,16 @@
 ghost use Rattle.std.specs.Prelude.{◌≡◌, ◌<◌};
 
 mod asked;
-mod chance;
 mod drawn;
 mod editor;
-mod fault;
 mod known;
 mod made;
-mod put;
 mod rounds;
 mod scenes;
 mod small;
 
 use dt_graph::Steps;
-use fault::Fault;
+use dt_trials::Fault;
 use known::print_known;
 use rounds::{Met, play};
 use std::io;

@@ -1,11 +1,10 @@
 use crate::asked::wrong_changes;
-use crate::chance::Chance;
 use crate::drawn::{draw_batch, first_batch};
 use crate::editor::{Editor, Told};
-use crate::fault::Fault;
 use dt_definitions::Batch;
 use dt_graph::Steps;
 use dt_scratch::Change;
+use dt_trials::{Chance, Fault};
 use std::alloc::Global;
 use std::sync::ledger::Ledger;
 

@@ -1,6 +1,6 @@
-use crate::fault::Fault;
 use crate::made::{put_class, put_define, put_link, put_selector, put_undefine, put_unlink};
 use dt_definitions::Batch;
+use dt_trials::Fault;
 use std::alloc::Global;
 
 /// An edit, or two that belong together, of a selector of one argument or of a class.

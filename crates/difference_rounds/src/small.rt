@@ -1,5 +1,5 @@
-use crate::chance::Chance;
 use dt_definitions::{ClassNo, SelNo};
+use dt_trials::Chance;
 
 /// The numbers of the classes that a small program may have, ascending: beside one another and at the ends of words.
 pub const CLASS_NUMBERS: [u16; 6] = [0, 1, 63, 64, 1000, 2047];

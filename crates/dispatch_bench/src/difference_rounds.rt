@@ -1,7 +1,6 @@
 ghost use Rattle.std.specs.Prelude.{◌<◌};
 
 use crate::edit_kind::EditKind;
-use crate::fault::Fault;
 use crate::figures::cost;
 use crate::metric::Metric;
 use crate::mix::Mix;
@@ -10,6 +9,7 @@ use crate::sized_programs::{Difference, SizedPrograms};
 use crate::stopwatch::Stopwatch;
 use crate::table::Table;
 use dt_definitions::{Batch, NoMemory};
+use dt_trials::Fault;
 use std::alloc::Global;
 use std::rt::Clock;
 

@@ -1,7 +1,6 @@
 ghost use Rattle.dispatch_bench.specs.Size.{IsClassCount};
 
 use crate::draws::Draws;
-use crate::fault::Fault;
 use crate::figures::cost;
 use crate::metric::Metric;
 use crate::mix::Mix;
@@ -11,6 +10,7 @@ use crate::shape::Shape;
 use crate::stopwatch::Stopwatch;
 use crate::table::Table;
 use dt_graph::{CLASSES, ClassGraph, ClassNo};
+use dt_trials::Fault;
 use std::rt::Clock;
 
 // How often a round makes each change.

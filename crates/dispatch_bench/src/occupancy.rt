@@ -1,13 +1,13 @@
 ghost use Rattle.std.specs.Prelude.{◌<◌, ◌≤◌};
 
 use crate::draws::Draws;
-use crate::fault::Fault;
 use crate::generator::draw_program;
 use crate::size::Size;
 use crate::table_rounds::load_tabled;
 use crate::table_space::{CELLS, Space};
 use dt_cells::TableKind;
 use dt_pages::Tree;
+use dt_trials::Fault;
 
 // So many cells make a block.
 const BLOCK: u32 = 2048;

@@ -1,6 +1,5 @@
 use crate::draws::Draws;
 use crate::edits::{Trial, links, new_classes, redefines, refused_batch, undefines, unlinks};
-use crate::fault::Fault;
 use crate::generator::draw_program;
 use crate::metric::Metric;
 use crate::mix::Mix;
@@ -12,6 +11,7 @@ use crate::trial_rounds::time_trials;
 use crate::work::{apply_all, count_below, load, resolve_all};
 use dt_definitions::{Batch, BatchFault, ClassGraph, ClassNo, Edit, NoMemory, Program};
 use dt_scratch::Query;
+use dt_trials::Fault;
 use std::alloc::Global;
 use std::fs;
 use std::rt::{Clock, Files};

@@ -1,4 +1,3 @@
-use crate::fault::Fault;
 use crate::generator::put;
 use crate::metric::Metric;
 use crate::mix::{Mix, code_of};
@@ -10,6 +9,7 @@ use dt_definitions::{
     Arity, Batch, BodyNo, ClassNo, Edit, NoMemory, Parents, Program, SelNo, Tuple,
 };
 use dt_scratch::{Query, resolve};
+use dt_trials::Fault;
 use std::alloc::Global;
 use std::rt::Clock;
 

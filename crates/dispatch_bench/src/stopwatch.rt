@@ -1,9 +1,9 @@
 ghost use Rattle.std.specs.Prelude.{◌<◌};
 
-use crate::fault::Fault;
 use crate::figures::{cost, nanoseconds};
 use crate::metric::Metric;
 use crate::table::Table;
+use dt_trials::Fault;
 use std::rt::Clock;
 use std::time::Instant;
 

@@ -3,7 +3,6 @@ ghost use Rattle.std.specs.Prelude.{◌≤◌};
 use crate::difference_rounds::{load_sized, time_differences};
 use crate::draws::Draws;
 use crate::edit_kind::EditKind;
-use crate::fault::Fault;
 use crate::generator::draw_program;
 use crate::metric::Metric;
 use crate::mix::{Mix, code_of};
@@ -20,6 +19,7 @@ use dt_cells::TableKind;
 use dt_definitions::{Batch, NoMemory, Program};
 use dt_scratch::Query;
 use dt_tables::{CommitFault, Tabled};
+use dt_trials::Fault;
 use std::alloc::Global;
 use std::rt::Clock;
 

@@ -1,6 +1,5 @@
 use crate::difference_rounds::{Found, count_all_changes, load_sized};
 use crate::draws::Draws;
-use crate::fault::Fault;
 use crate::figures::Thousandths;
 use crate::generator::{draw_call, draw_program};
 use crate::mix::{Mix, code_of};
@@ -12,6 +11,7 @@ use crate::size::Size;
 use crate::work::load;
 use dt_definitions::{Batch, NoMemory, Program};
 use dt_scratch::resolve;
+use dt_trials::Fault;
 use std::alloc::Global;
 use std::io;
 

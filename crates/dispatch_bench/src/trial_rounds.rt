@@ -1,6 +1,5 @@
 use crate::draws::Draws;
 use crate::edits::redefining_batch;
-use crate::fault::Fault;
 use crate::generator::draw_program;
 use crate::metric::Metric;
 use crate::program_rounds::ROUNDS;
@@ -8,6 +7,7 @@ use crate::size::Size;
 use crate::stopwatch::Stopwatch;
 use crate::table::Table;
 use dt_definitions::{Batch, BatchFault, NoMemory, TwoPrograms};
+use dt_trials::Fault;
 use std::alloc::Global;
 use std::rt::Clock;
 

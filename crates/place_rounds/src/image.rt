@@ -1,5 +1,5 @@
-use crate::fault::Fault;
 use dt_pages::Tree;
+use dt_trials::Fault;
 use std::alloc::Global;
 
 /// Addresses are below this number.

@@ -1,7 +1,6 @@
-use crate::fault::Fault;
-use crate::put::put;
 use crate::small::{class, selector};
 use dt_definitions::{Arity, Batch, BodyNo, ClassNo, Edit, Parents, Tuple};
+use dt_trials::{Fault, put};
 use std::alloc::Global;
 
 /// An edit of a program that is known.

@@ -3,14 +3,11 @@
 #![tactic(auto)]
 
 mod cells;
-mod chance;
 mod drawn;
-mod fault;
 mod image;
 mod made;
 mod met;
 mod placing;
-mod put;
 mod rounds;
 mod search;
 mod small;
@@ -18,7 +15,7 @@ mod worked;
 
 use dt_colour::Colour;
 use dt_row::Row;
-use fault::Fault;
+use dt_trials::Fault;
 use met::Met;
 use rounds::play;
 use std::io;

@@ -1,10 +1,10 @@
 use crate::cells::{Cells, cells_of, count_changes, is_some};
-use crate::fault::Fault;
 use crate::image::{CELLS, Image};
 use crate::met::{Met, Turn};
 use crate::search::{cell_number, fits, lowest_place, meets_own, use_cells};
 use crate::small::{CLASS_NUMBERS, SELECTOR_NUMBERS, class, selector};
 use dt_definitions::{Arity, Program};
+use dt_trials::Fault;
 use std::alloc::Global;
 
 // A selector as it is placed.

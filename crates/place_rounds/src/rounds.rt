@@ -1,8 +1,6 @@
 ghost use Rattle.std.specs.Prelude.{◌≤◌};
 
-use crate::chance::Chance;
 use crate::drawn::{draw_batch, first_batch};
-use crate::fault::Fault;
 use crate::image::{ADDRESSES, Image, count_words};
 use crate::met::Met;
 use crate::placing::Placing;
@@ -10,6 +8,7 @@ use dt_cells::TableKind;
 use dt_definitions::{Batch, Program};
 use dt_pages::Tree;
 use dt_tables::{CommitFault, Tabled};
+use dt_trials::{Chance, Fault};
 use std::alloc::Global;
 
 // How many programs there are.

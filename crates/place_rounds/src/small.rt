@@ -1,5 +1,5 @@
-use crate::chance::Chance;
 use dt_definitions::{ClassNo, SelNo};
+use dt_trials::Chance;
 
 /// The numbers of the classes that a small program may have, ascending: many beside one another, and some at the ends of
 /// words.

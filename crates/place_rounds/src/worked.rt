@@ -1,6 +1,5 @@
 ghost use Rattle.std.specs.Prelude.{◌≡◌, ◌≤◌};
 
-use crate::fault::Fault;
 use crate::image::{ADDRESSES, CELLS, CELLS_BEGIN, count_words};
 use crate::made::{Known, batch_of};
 use dt_cells::TableKind;
@@ -9,6 +8,7 @@ use dt_pages::Tree;
 use dt_row::Row;
 use dt_scratch::{Query, Reply};
 use dt_tables::Tabled;
+use dt_trials::Fault;
 use std::io;
 
 // Two classes, and two selectors, each defined at a class of its own.

@@ -7,7 +7,7 @@ use std::io;
 pub enum Fault {
     /// Memory was wanted, and none was found.
     NoMemory,
-    /// The clock, the system's figures or standard output failed.
+    /// The clock, the system's figures or standard output failed, or a batch has no place left.
     Outside,
 }
 
