@@ -1,11 +1,10 @@
 -- What is understood, and a row, is below one definition.
-use Rattle.std.proofs.Common.{◌≡◌, ℕ, ◌<◌, ◌≤◌, true, ◌&&◌, IsTrue, List, length, Some, refl, sym, ap, ◌∙◌, arith, All}
-use Rattle.std.specs.List.{list_any}
+use Rattle.std.proofs.Common.{◌≡◌, ℕ, ◌<◌, true, IsTrue, length, sym, ◌∙◌, arith, All}
 use Rattle.std.proofs.lemmas.Bool.{and_parts, and_from}
 use Rattle.dt_graph.specs.Graph.{is_live}
 use Rattle.dt_graph.proofs.ListMembers.{In, In-from_any, any_from_In}
 use Rattle.dt_definitions.specs.Lawful.{Lawful}
-use Rattle.dt_definitions.specs.Program.{Definition, Program, arity_of, definitions_of}
+use Rattle.dt_definitions.specs.Program.{Definition, Program, definitions_of}
 use Rattle.dt_scratch.specs.Query.{Query}
 use Rattle.dt_propagate.specs.Begun.{begins, is_begun_query, takes_more}
 use Rattle.dt_propagate.specs.Touched.{takes}

@@ -8,11 +8,11 @@ pub mod Leaf
 pub mod WalkSteps
 pub mod MarkSteps
 pub mod Touching
+pub mod TouchedTurns
 pub mod Cover
 pub mod AllDifferences
 pub mod EditedLists
 pub mod DifferNear
-pub mod Flags
 pub mod Begun
 pub mod Totals
 pub mod CellsAndRows

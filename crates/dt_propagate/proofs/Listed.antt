@@ -1,10 +1,10 @@
 -- What is below definitions, each by itself, as lists of queries.
-use Rattle.std.proofs.Common.{◌≡◌, ℕ, suc, ◌+◌, ◌*◌, ◌<◌, true, IsTrue, List, [], ◌∷◌, ◌++◌, length, map, inl, inr, refl, ap, ◌∙◌, arith, All}
+use Rattle.std.proofs.Common.{◌≡◌, ℕ, ◌*◌, ◌<◌, true, IsTrue, List, [], ◌∷◌, ◌++◌, length, map, inl, inr, refl, ap, ◌∙◌, arith, All}
 use Rattle.std.specs.List.{sum_by}
-use Rattle.std.proofs.lemmas.Bool.{false≢true, and_parts}
+use Rattle.std.proofs.lemmas.Bool.{and_parts}
 use Rattle.std.proofs.lemmas.List.Elements.{All-head, All-tail}
 use Rattle.std.proofs.lemmas.List.Sums.{sum_by-cons}
-use Rattle.dt_graph.specs.Graph.{Graph, Link, has_number, is_live}
+use Rattle.dt_graph.specs.Graph.{Graph, is_live}
 use Rattle.dt_graph.specs.Below.{is_below}
 use Rattle.dt_graph.specs.Descendants.{descendants}
 use Rattle.dt_graph.proofs.ListMembers.{In, In-append, In-later, In-map}

@@ -1,7 +1,7 @@
 -- What is new in a program where nothing is below more classes than before is below a definition that was made.
-use Rattle.std.proofs.Common.{◌≡◌, ◌==◌, ℕ, ◌+◌, ◌<◌, true, false, not, ◌&&◌, if◌then◌else◌, IsTrue, List, [], ◌∷◌, ◌++◌, length, filter, inl, inr, ◌⊎◌, ⊎_elim, refl, sym, ap, subst, ◌∙◌, arith, All, eqb-true, eq-eqb}
+use Rattle.std.proofs.Common.{◌≡◌, ◌==◌, ℕ, true, not, if◌then◌else◌, IsTrue, List, [], ◌∷◌, ◌++◌, length, inl, inr, ◌⊎◌, ⊎_elim, refl, sym, ap, subst, ◌∙◌, arith, All, eqb-true, eq-eqb}
 use Rattle.std.proofs.lemmas.Bool.{false≢true, and_parts, and_from}
-use Rattle.dt_graph.specs.Graph.{Link, has_number, is_live}
+use Rattle.dt_graph.specs.Graph.{is_live}
 use Rattle.dt_graph.specs.Below.{is_below}
 use Rattle.dt_graph.proofs.ListMembers.{by_cases, In, In-append, In-later, In-filter, In-from_filter, In-from_any, any_from_In, In-from_Contains, Contains-from_In}
 use Rattle.dt_graph.proofs.SameLists.{same_list_equal}
@@ -18,7 +18,7 @@ use Rattle.dt_propagate.specs.Understood.{Understands, IsRow}
 use Rattle.dt_propagate.proofs.BelowOne.{BelowOne, AsMany, Fewer, live_at, understood_below, below_understood, row_below, below_row}
 use Rattle.dt_propagate.proofs.BoxSizes.{length-both}
 use Rattle.dt_propagate.proofs.CellsAndRows.{definition_at}
-use Rattle.dt_propagate.proofs.Listed.{listed_by, In-listed, listed_length, query_at, cells_at, rows_at, row_alone, cells_at_length, rows_at_length, in_cells_at, in_rows_at}
+use Rattle.dt_propagate.proofs.Listed.{listed_by, In-listed, query_at, cells_at, rows_at, row_alone, cells_at_length, rows_at_length, in_cells_at, in_rows_at}
 
 -- the selector and the classes of a definition at a key
 at_key : (key : DefinitionKey) (d : Definition) → is_definition key.selector key.classes d ≡ true →

@@ -1,5 +1,5 @@
 -- The empty program has neither cells nor rows.
-use Rattle.std.proofs.Common.{ℕ, ◌<◌, List, [], ◌∷◌, length, refl, arith}
+use Rattle.std.proofs.Common.{ℕ, [], ◌∷◌, refl, arith}
 use Rattle.std.proofs.lemmas.List.Elements.{All-head}
 use Rattle.dt_definitions.specs.Program.{empty_program}
 use Rattle.dt_scratch.specs.Query.{Query, query_order}

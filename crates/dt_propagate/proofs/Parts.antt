@@ -1,5 +1,4 @@
 -- Cells and rows alike.
-use Rattle.std.proofs.Common.{List}
 use Rattle.dt_definitions.specs.Lawful.{Lawful}
 use Rattle.dt_definitions.specs.Program.{Program}
 use Rattle.dt_scratch.specs.Query.{query_order}

@@ -8,7 +8,6 @@ use Rattle.dt_graph.specs.Graph.{Graph, has_number}
 use Rattle.dt_graph.specs.Below.{is_below}
 use Rattle.dt_graph.proofs.ListMembers.{by_cases, In, In-append, In-later, In-from_Contains, Contains-from_In, All-In}
 use Rattle.dt_selectors.proofs.Arities.{live_in_range}
-use Rattle.dt_selectors.specs.declared.limits.TheConstants.{SELECTORS}
 use Rattle.dt_definitions.specs.Lawful.{Lawful}
 use Rattle.dt_definitions.specs.Program.{Definition, Program, definitions_of}
 use Rattle.dt_definitions.specs.declared.definition_key.DefinitionKey.{DefinitionKey}

@@ -1,5 +1,5 @@
 -- Of selectors that aren't touched, and of queries of another arity, nothing is told.
-use Rattle.std.proofs.Common.{◌≡◌, ◌≢◌, ◌==◌, ℕ, zero, suc, ◌+◌, Bool, true, false, not, ◌&&◌, ◌||◌, IsTrue, List, [], ◌∷◌, ◌++◌, length, filter, get_or, inl, inr, ◌⊎◌, ⊎_elim, refl, sym, ap, subst, ◌∙◌, arith, eqb-true, eq-eqb, append_assoc, append-nil}
+use Rattle.std.proofs.Common.{◌≡◌, ◌≢◌, ◌==◌, ℕ, zero, suc, ◌+◌, Bool, true, false, not, ◌&&◌, ◌||◌, IsTrue, List, [], ◌∷◌, ◌++◌, length, filter, inl, inr, ◌⊎◌, ⊎_elim, refl, sym, ap, subst, ◌∙◌, arith, eqb-true, eq-eqb, append_assoc, append-nil}
 use Rattle.std.specs.List.{list_any, range_with_len}
 use Rattle.std.proofs.lemmas.Bool.{false≢true, and_parts, or_cases, or_left, or_right, or_parts, or_from, false_from_ne_true}
 use Rattle.dt_graph.specs.Graph.{has_number}
@@ -173,23 +173,20 @@ module _ (old new : Program) (selector : ℕ) (keys : List DefinitionKey) (edite
       (subst (λ s. NamesAll (is_named_at old new selector) s new) (sym e) names_new)
       (no_candidate old query e) (no_candidate new query e)
 
--- so of a selector whose flag isn't set nothing is told
-pub touch_all : (old new : Program) (keys : List DefinitionKey) (edited moved : List ℕ) (touched : List Bool) → DifferNear old new keys edited →
-    ((n : ℕ) → has_number moved n ≡ list_any (λ class. is_moved old.graph.links new.graph.links class n) edited) → length touched ≡ SELECTORS →
-    ((n : ℕ) → get_or touched n false ≡ (is_of_any keys n || names_any old new moved n)) → TouchAll old new touched
-touch_all old new keys edited moved touched differ moved_is all flags = record {
-  all_selectors = all;
-  others = λ selector unset.
-      let parts = or_parts (is_of_any keys selector) (names_any old new moved selector) (sym (flags selector) ∙ unset) in
-      empty_list (told_of (told_change old new) all_arities selector) (λ x i.
-      let t = In-from_turn (λ arity. told_after (told_change old new) selector arity []) all_arities x i in
-      let a = told_from (λ change. change.query) (told_change old new) (told_once old new) selector t.0 [] x t.2 in
-      let query : Query = record { selector = selector; classes = a.rest } in
-      (told_differs old new query x a.there).0
-      (untouched_stays old new selector keys edited moved differ moved_is parts.0 parts.1
-      (names_old old new selector keys edited differ) (names_new old new selector keys edited differ) query refl));
-}
+-- so of a selector that isn't in the set nothing is told
+pub touch_all : (old new : Program) (keys : List DefinitionKey) (edited moved touched : List ℕ) → DifferNear old new keys edited →
+    ((n : ℕ) → has_number moved n ≡ list_any (λ class. is_moved old.graph.links new.graph.links class n) edited) →
+    ((n : ℕ) → has_number touched n ≡ (is_of_any keys n || names_any old new moved n)) → TouchAll old new touched
+touch_all old new keys edited moved touched differ moved_is touched_is selector unset =
+    let parts = or_parts (is_of_any keys selector) (names_any old new moved selector) (sym (touched_is selector) ∙ unset) in
+    empty_list (told_of (told_change old new) all_arities selector) (λ x i.
+    let t = In-from_turn (λ arity. told_after (told_change old new) selector arity []) all_arities x i in
+    let a = told_from (λ change. change.query) (told_change old new) (told_once old new) selector t.0 [] x t.2 in
+    let query : Query = record { selector = selector; classes = a.rest } in
+    (told_differs old new query x a.there).0
+    (untouched_stays old new selector keys edited moved differ moved_is parts.0 parts.1
+    (names_old old new selector keys edited differ) (names_new old new selector keys edited differ) query refl))
 
-pub flags_are : (before of_key named middle after : Bool) → before ≡ false → middle ≡ (before || of_key) → after ≡ (middle || named) →
+pub touched_are : (before of_key named middle after : Bool) → before ≡ false → middle ≡ (before || of_key) → after ≡ (middle || named) →
     after ≡ (of_key || named)
-flags_are before of_key named middle after none m a = grind (arith, none, m, a)
+touched_are before of_key named middle after none m a = grind (arith, none, m, a)

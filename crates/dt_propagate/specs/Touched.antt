@@ -1,8 +1,8 @@
 -- Of which selectors the cells may differ at all.
-use Rattle.std.specs.Prelude.{◌≡◌, ◌==◌, ℕ, Bool, false, ◌||◌, List, [], length, get_or}
+use Rattle.std.specs.Prelude.{◌≡◌, ◌==◌, ℕ, Bool, false, ◌||◌, List, []}
 use Rattle.std.specs.List.{list_any}
 use Rattle.std.specs.Option.{option_map_or}
-use Rattle.dt_selectors.specs.declared.limits.TheConstants.{SELECTORS}
+use Rattle.dt_graph.specs.Graph.{has_number}
 use Rattle.dt_definitions.specs.Program.{Program, arity_of}
 use Rattle.dt_definitions.specs.Naming.{naming}
 use Rattle.dt_definitions.specs.declared.definition_key.DefinitionKey.{DefinitionKey}
@@ -22,7 +22,7 @@ abbrev pub names_any : Program → Program → List ℕ → ℕ → Bool
 names_any old new classes selector =
     list_any (λ class. is_of_any (naming old.definitions class) selector || is_of_any (naming new.definitions class) selector) classes
 
--- a flag for each selector: nothing is told of those whose flag isn't set
-pub record TouchAll (old new : Program) (touched : List Bool) : Type 0 where
-  pub all_selectors : length touched ≡ SELECTORS
-  pub others : (selector : ℕ) → get_or touched selector false ≡ false → told_of (told_change old new) all_arities selector ≡ []
+-- nothing is told of a selector that isn't in the set
+abbrev pub TouchAll : Program → Program → List ℕ → Type 0
+TouchAll old new touched =
+    (selector : ℕ) → has_number touched selector ≡ false → told_of (told_change old new) all_arities selector ≡ []

@@ -1,5 +1,4 @@
-ghost use Rattle.std.specs.Prelude.{◌≡◌, ◌≤◌, ◌++◌, ℕ, false, IfOk, OnOk, get_or, length};
-ghost use Rattle.dt_selectors.specs.declared.limits.TheConstants.{SELECTORS};
+ghost use Rattle.std.specs.Prelude.{◌≡◌, ◌≤◌, ◌++◌, IfOk, OnOk};
 ghost use Rattle.dt_propagate.specs.Counted.{CountsOn};
 ghost use Rattle.dt_propagate.specs.Differences.{AreDifferences};
 ghost use Rattle.dt_propagate.specs.GoneThrough.{all_arities, told_of_all};
@@ -8,21 +7,12 @@ ghost use Rattle.dt_propagate.specs.Walk.{told_change};
 
 use crate::found::Found;
 use crate::site::Site;
-use crate::touched::touch_all;
+use crate::touched::touched;
 use crate::walk::push_all;
 use dt_definitions::{DefinitionKey, Program};
 use dt_graph::{ClassSet, NoMemory, Steps};
-use dt_selectors::SELECTORS;
 use std::alloc::Global;
 use std::sync::ledger::Ledger;
-
-// A flag for each selector, and none is set.
-fn no_flags() -> [bool; SELECTORS as usize]
-    ensures all { length result ≡ SELECTORS }
-    ensures none { (n : ℕ) → get_or result n false ≡ false }
-{
-    [false; SELECTORS as usize]
-}
 
 // What is told of all queries goes to the end.
 fn push_touched<L: Ledger>(
@@ -38,8 +28,7 @@ fn push_touched<L: Ledger>(
     ensures counted { OnOk result (CountsOn steps.old steps.new out.old.counted out.new.counted) }
     ensures grows { steps.old ≤ steps.new }
 {
-    let mut touched = no_flags();
-    touch_all(old, new, keys, edited, &mut touched);
+    let touched = touched(old, new, keys, edited);
     push_all(old, new, keys, edited, &touched, steps, out)
 }
 

@@ -13,6 +13,7 @@ mod limits;
 mod marks;
 mod near;
 mod part;
+mod selector_set;
 mod site;
 mod sizes;
 mod told;

@@ -9,11 +9,12 @@ ghost use Rattle.dt_propagate.specs.Walk.{GoesThroughAll, goes_next, goes_on_in,
 use crate::found::Found;
 use crate::marks::nears;
 use crate::near::{Near, insert_defined, insert_redefined};
+use crate::selector_set::SelectorSet;
 use crate::told::{push_told, query_at};
 use arrayvec::ArrayVec;
 use dt_definitions::{DefinitionKey, Program};
 use dt_graph::{ClassNo, ClassSet, NoMemory, Steps};
-use dt_selectors::{SELECTORS, SelNo};
+use dt_selectors::SelNo;
 use std::alloc::Global;
 use std::sync::ledger::Ledger;
 
@@ -202,37 +203,13 @@ fn push_of<L: Ledger>(
     push_arities(old, new, selector, &own, edited, steps, out)
 }
 
-// The same, where the selector's flag is set.
-fn push_if_touched<L: Ledger>(
-    old: &Program,
-    new: &Program,
-    selector: SelNo,
-    keys: &[DefinitionKey],
-    edited: &ClassSet,
-    touched: &[bool],
-    steps: &mut Steps<L>,
-    out: &mut Found,
-) -> Result<(), NoMemory>
-    requires near { DifferNear old.now new.now keys.now edited.now }
-    requires touched { TouchAll old.now new.now touched.now }
-    ensures told { OnOk result (out.new.changes.items ≡ out.old.changes.items ++ told_of (told_change old.now new.now) all_arities selector) }
-    ensures counted { OnOk result (CountsOn steps.old steps.new out.old.counted out.new.counted) }
-    ensures grows { steps.old ≤ steps.new }
-{
-    out.law();
-    if !touched[usize::from(selector.number())] {
-        return Ok(());
-    }
-    push_of(old, new, selector, keys, edited, steps, out)
-}
-
-// What is told of the queries of all selectors whose flag is set goes to the end.
+// What is told of the queries of all selectors goes to the end. Those that aren't in the set are passed over.
 pub(crate) fn push_all<L: Ledger>(
     old: &Program,
     new: &Program,
     keys: &[DefinitionKey],
     edited: &ClassSet,
-    touched: &[bool],
+    touched: &SelectorSet,
     steps: &mut Steps<L>,
     out: &mut Found,
 ) -> Result<(), NoMemory>
@@ -242,11 +219,12 @@ pub(crate) fn push_all<L: Ledger>(
     ensures counted { OnOk result (CountsOn steps.old steps.new out.old.counted out.new.counted) }
     ensures grows { steps.old ≤ steps.new }
 {
-    for number in 0..SELECTORS {
-        let Some(selector) = SelNo::new(number) else {
-            unreachable!();
-        };
-        push_if_touched(old, new, selector, keys, edited, touched, steps, out)?;
+    out.law();
+    touched.law();
+    let mut least = 0;
+    while let Some(selector) = touched.first_from(least) {
+        push_of(old, new, selector, keys, edited, steps, out)?;
+        least = selector.number() as usize + 1;
     }
     Ok(())
 }

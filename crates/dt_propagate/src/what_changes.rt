@@ -33,7 +33,7 @@ use std::sync::ledger::Ledger;
 /// program, for the queries below a definition that the batch makes or takes away, and for those whose answer its links
 /// can change: with a class that is below other classes, or another order of them, among those that the selector's
 /// definitions name in that position. Selectors that no definition at a class which moved, and no edit, names cost
-/// nothing but a flag.
+/// nothing but a bit: 64 of them that are next to each other in number are passed over by one look.
 ///
 /// Where the batch leaves no class below one that it wasn't below, the new sizes are the old ones and what is below each
 /// definition that it makes: they cost nothing that grows with the program. Else each definition of the new program is

@@ -1,4 +1,4 @@
-use Rattle.std.proofs.Common.{is_some, sym, ap, ◌∙◌}
+use Rattle.std.proofs.Common.{is_some, ap, ◌∙◌}
 use Rattle.dt_definitions.proofs.DefinitionChanges.{some_body}
 use Rattle.dt_definitions.specs.Program.{body_of}
 use Rattle.dt_propagate.proofs.bound.has.Goals as goal

@@ -1,4 +1,4 @@
-use Rattle.std.proofs.Common.{◌≡◌, ◌≤◌, List, length, sym, ◌∙◌, arith}
+use Rattle.std.proofs.Common.{List, length, sym, ◌∙◌, arith}
 use Rattle.dt_scratch.specs.Query.{Query}
 use Rattle.dt_propagate.specs.Begun.{HasPart, told_part}
 use Rattle.dt_propagate.specs.Boxes.{in_turn}

@@ -1,4 +1,3 @@
-use Rattle.dt_propagate.specs.declared.sizes.Sizes.{Sizes}
 use Rattle.dt_propagate.proofs.NoSizes.{empty_has_none}
 use Rattle.dt_propagate.proofs.sizes.Sizes.none.Goals as goal
 
