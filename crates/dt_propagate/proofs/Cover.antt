@@ -13,7 +13,7 @@ use Rattle.dt_graph.proofs.SameLists.{same_list_equal}
 use Rattle.dt_scratch.specs.Query.{Query}
 use Rattle.dt_scratch.specs.Resolve.{are_below, applicable}
 use Rattle.dt_propagate.specs.FinerMarks.{is_marked, are_named, NamesAll, MarksTell, is_marked_candidate}
-use Rattle.dt_propagate.specs.Marks.{has_at, names_at, is_named_at, DifferNear, NearsTell}
+use Rattle.dt_propagate.specs.Marks.{has_at, names_at, is_named_at, DifferBelow, NearsTell}
 use Rattle.dt_propagate.specs.Walk.{is_any_above, goes_on, goes_on_defined, goes_on_redefined, goes_on_in, GoesThroughAll, goes_next}
 use Rattle.dt_propagate.specs.declared.near.Near.{Near}
 use Rattle.dt_propagate.proofs.Counts.{own}
@@ -33,6 +33,15 @@ AboveListed links [] = Unit {0}
 AboveListed links (near ∷ nears) =
     ((class high : ℕ) → IsTrue (has_number near.marked class) → IsTrue (is_below links class high) → IsTrue (has_number near.above high))
     × AboveListed links nears
+
+-- and so from the second position on
+abbrev LaterListed : List Link → List Near → Type 0
+LaterListed links [] = Unit {0}
+LaterListed links (near ∷ nears) = AboveListed links nears
+
+later_listed : (links : List Link) (nears : List Near) → AboveListed links nears → LaterListed links nears
+later_listed links [] listed = tt
+later_listed links (near ∷ nears) listed = listed.1
 
 module _ (links : List Link) where
   above_met : (nears : List Near) (classes highs : List ℕ) → AboveListed links nears → are_below links classes highs ≡ true →
@@ -62,7 +71,7 @@ module _ (links : List Link) where
   met_before false marked rest h = h
 
   goes : (nears : List Near) (is_met : Bool) (highs prefix : List ℕ) (class : ℕ) (rest : List ℕ) → length highs ≤ length nears →
-      AboveListed links nears → are_below links (prefix ++ class ∷ rest) highs ≡ true →
+      LaterListed links nears → are_below links (prefix ++ class ∷ rest) highs ≡ true →
       (is_met || meets_mark nears (prefix ++ class ∷ rest)) ≡ true → goes_on links nears is_met highs prefix class ≡ true
   goes nears is_met [] prefix class rest few listed below met = absurd (not_below_none prefix class rest below)
   goes [] is_met (high ∷ highs) prefix class rest few listed below met = absurd (omega (arith, few))
@@ -70,11 +79,11 @@ module _ (links : List Link) where
       let parts = and_parts (is_below links class high) (are_below links rest highs) below in
       and_from (is_below links class high) ((is_met || is_any_above nears highs) || has_number near.marked class) parts.0
       (met_next is_met (has_number near.marked class) (meets_mark nears rest) (is_any_above nears highs) met
-      (λ later. above_met nears rest highs listed.1 parts.1 later))
+      (λ later. above_met nears rest highs listed parts.1 later))
   goes (near ∷ nears) is_met (high ∷ highs) (first ∷ prefix) class rest few listed below met =
       let parts = and_parts (is_below links first high) (are_below links (prefix ++ class ∷ rest) highs) below in
       and_from (is_below links first high) (goes_on links nears (is_met || has_number near.marked first) highs prefix class) parts.0
-      (goes nears (is_met || has_number near.marked first) highs prefix class rest (omega (arith, few)) listed.1 parts.1
+      (goes nears (is_met || has_number near.marked first) highs prefix class rest (omega (arith, few)) (later_listed links nears listed) parts.1
       (met_before is_met (has_number near.marked first) (meets_mark nears (prefix ++ class ∷ rest)) met))
 
 -- ---- marks by their position
@@ -119,23 +128,31 @@ named_from named (class ∷ classes) position h =
 
 -- ---- two programs
 
-module _ (old new : Program) (selector : ℕ) (keys : List DefinitionKey) (edited : List ℕ) (differ : DifferNear old new keys edited) where
+module _ (old new : Program) (selector : ℕ) (keys : List DefinitionKey) (moved : List ℕ) (differ : DifferBelow old new keys moved) where
   abbrev named : ℕ → ℕ → Bool
   named = is_named_at old new selector
 
-  above_old : (position : ℕ) (nears : List Near) → NearsTell old new selector position nears → AboveListed old.graph.links nears
-  above_old position [] tell = tt
-  above_old position (near ∷ nears) tell = (
-    λ class high marked below. tell.0.listed_above class high marked (or_left (is_below old.graph.links class high) (is_below new.graph.links class high) below),
-    above_old (suc position) nears tell.1,
+  above_old : (position : ℕ) (nears : List Near) → 0 < position → NearsTell old new selector position nears → AboveListed old.graph.links nears
+  above_old position [] some tell = tt
+  above_old position (near ∷ nears) some tell = (
+    λ class high marked below. tell.0.listed_above some class high marked (or_left (is_below old.graph.links class high) (is_below new.graph.links class high) below),
+    above_old (suc position) nears (omega arith) tell.1,
   )
 
-  above_new : (position : ℕ) (nears : List Near) → NearsTell old new selector position nears → AboveListed new.graph.links nears
-  above_new position [] tell = tt
-  above_new position (near ∷ nears) tell = (
-    λ class high marked below. tell.0.listed_above class high marked (or_right (is_below old.graph.links class high) (is_below new.graph.links class high) below),
-    above_new (suc position) nears tell.1,
+  later_old : (nears : List Near) → NearsTell old new selector 0 nears → LaterListed old.graph.links nears
+  later_old [] tell = tt
+  later_old (near ∷ nears) tell = above_old 1 nears (omega arith) tell.1
+
+  above_new : (position : ℕ) (nears : List Near) → 0 < position → NearsTell old new selector position nears → AboveListed new.graph.links nears
+  above_new position [] some tell = tt
+  above_new position (near ∷ nears) some tell = (
+    λ class high marked below. tell.0.listed_above some class high marked (or_right (is_below old.graph.links class high) (is_below new.graph.links class high) below),
+    above_new (suc position) nears (omega arith) tell.1,
   )
+
+  later_new : (nears : List Near) → NearsTell old new selector 0 nears → LaterListed new.graph.links nears
+  later_new [] tell = tt
+  later_new (near ∷ nears) tell = above_new 1 nears (omega arith) tell.1
 
   same_above : (position : ℕ) (nears : List Near) → NearsTell old new selector position nears → (i at class high : ℕ) → at ≡ position + i →
       i < length nears → marked_at nears i class ≡ false → IsTrue (named at high) →
@@ -202,7 +219,7 @@ module _ (old new : Program) (selector : ℕ) (keys : List DefinitionKey) (edite
     }
 
     -- a candidate goes on in its program
-    candidate_goes : (program : Program) → Lawful program → AboveListed program.graph.links nears → (prefix : List ℕ) (class : ℕ) (rest : List ℕ) →
+    candidate_goes : (program : Program) → Lawful program → LaterListed program.graph.links nears → (prefix : List ℕ) (class : ℕ) (rest : List ℕ) →
         is_marked_candidate (marked_at nears) keys program (record { selector = selector; classes = prefix ++ class ∷ rest }) ≡ true →
         goes_on_in program selector keys nears prefix class ≡ true
     candidate_goes program lawful listed prefix class rest candidate =
@@ -236,10 +253,10 @@ module _ (old new : Program) (selector : ℕ) (keys : List DefinitionKey) (edite
         let query : Query = record { selector = selector; classes = prefix ++ class ∷ rest } in
         by_cases (is_marked_candidate (marked_at nears) keys old query)
         (λ t. or_left (goes_on_in old selector keys nears prefix class) (goes_on_in new selector keys nears prefix class)
-        (candidate_goes old differ.old_lawful (above_old 0 nears tell) prefix class rest t))
+        (candidate_goes old differ.old_lawful (later_old nears tell) prefix class rest t))
         (λ none_old. by_cases (is_marked_candidate (marked_at nears) keys new query)
         (λ t. or_right (goes_on_in old selector keys nears prefix class) (goes_on_in new selector keys nears prefix class)
-        (candidate_goes new differ.new_lawful (above_new 0 nears tell) prefix class rest t))
+        (candidate_goes new differ.new_lawful (later_new nears tell) prefix class rest t))
         (λ none_new. absurd (differs (finer_marks_serve (marked_at nears) named keys old new differ.old_lawful differ.new_lawful
         differ.definitions marks_tell query names_old names_new none_old none_new))))
 

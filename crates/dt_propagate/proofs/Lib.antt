@@ -5,6 +5,7 @@ pub mod Counts
 pub mod FinerMarks
 pub mod GoneThrough
 pub mod Leaf
+pub mod WalkedSets
 pub mod WalkSteps
 pub mod MarkSteps
 pub mod Touching

@@ -1,5 +1,5 @@
 -- What is told of all selectors in turn, where nothing is told of those that are passed over.
-use Rattle.std.proofs.Common.{◌≡◌, ℕ, zero, suc, ◌+◌, ◌-◌, ◌<◌, ◌≤◌, List, [], ◌∷◌, ◌++◌, None, Some, false, refl, sym, ap, ◌∙◌, arith, append_assoc, append-nil}
+use Rattle.std.proofs.Common.{◌≡◌, ℕ, zero, suc, ◌+◌, ◌-◌, ◌<◌, ◌≤◌, List, [], ◌++◌, None, Some, false, refl, sym, ap, ◌∙◌, arith, append-nil}
 use Rattle.std.specs.List.{range_with_len}
 use Rattle.dt_graph.specs.Graph.{has_number}
 use Rattle.dt_graph.specs.FirstFrom.{first_from}
@@ -8,12 +8,9 @@ use Rattle.dt_graph.proofs.AscendingSets.{first_some, first_none}
 use Rattle.dt_graph.proofs.ClassBits.{range-split}
 use Rattle.dt_propagate.specs.Boxes.{in_turn}
 use Rattle.dt_propagate.proofs.Touching.{turned}
+use Rattle.dt_propagate.proofs.WalkedSets.{turns_append}
 
 module _ {T : Type 0} (f : ℕ → List T) where
-  turns_append : (xs ys : List ℕ) → in_turn f (xs ++ ys) ≡ in_turn f xs ++ in_turn f ys
-  turns_append [] ys = refl
-  turns_append (x ∷ xs) ys = ap (λ zs. f x ++ zs) (turns_append xs ys) ∙ sym (append_assoc (f x) (in_turn f xs) (in_turn f ys))
-
   none_turned : (a n : ℕ) → ((k : ℕ) → a ≤ k → k < a + n → f k ≡ []) → in_turn f (range_with_len a n) ≡ []
   none_turned a zero none = refl
   none_turned a (suc n) none =
@@ -26,7 +23,7 @@ module _ {T : Type 0} (f : ℕ → List T) where
       let n : ℕ = next - least in
       let whole : next ≡ least + n = omega (arith, more) in
       ap (in_turn f) (range-split 0 least n next whole)
-      ∙ turns_append (range_with_len 0 least) (range_with_len (0 + least) n)
+      ∙ turns_append f (range_with_len 0 least) (range_with_len (0 + least) n)
       ∙ ap (λ xs. in_turn f (range_with_len 0 least) ++ xs)
       (none_turned (0 + least) n (λ k low high. none k (omega (arith, low)) (omega (arith, high, whole))))
       ∙ append-nil (in_turn f (range_with_len 0 least))

@@ -1,6 +1,6 @@
 -- Of selectors that aren't touched, and of queries of another arity, nothing is told.
-use Rattle.std.proofs.Common.{◌≡◌, ◌≢◌, ◌==◌, ℕ, zero, suc, ◌+◌, Bool, true, false, not, ◌&&◌, ◌||◌, IsTrue, List, [], ◌∷◌, ◌++◌, length, filter, inl, inr, ◌⊎◌, ⊎_elim, refl, sym, ap, subst, ◌∙◌, arith, eqb-true, eq-eqb, append_assoc, append-nil}
-use Rattle.std.specs.List.{list_any, range_with_len}
+use Rattle.std.proofs.Common.{◌≡◌, ◌≢◌, ◌==◌, ℕ, zero, suc, ◌+◌, Bool, true, false, ◌&&◌, ◌||◌, IsTrue, List, [], ◌∷◌, ◌++◌, length, filter, inl, inr, ◌⊎◌, ⊎_elim, refl, sym, ap, subst, ◌∙◌, arith, eqb-true, eq-eqb, append_assoc, append-nil}
+use Rattle.std.specs.List.{range_with_len}
 use Rattle.std.proofs.lemmas.Bool.{false≢true, and_parts, or_cases, or_left, or_right, or_parts, or_from, false_from_ne_true}
 use Rattle.dt_graph.specs.Graph.{has_number}
 use Rattle.dt_graph.specs.Below.{is_below}
@@ -19,7 +19,7 @@ use Rattle.dt_propagate.specs.Boxes.{in_turn}
 use Rattle.dt_propagate.specs.Differences.{Differs}
 use Rattle.dt_propagate.specs.FinerMarks.{is_marked, NamesAll, MarksTell, is_marked_candidate}
 use Rattle.dt_propagate.specs.GoneThrough.{all_arities, all_selectors, told_after, told_of}
-use Rattle.dt_propagate.specs.Marks.{has_at, names_at, is_named_at, is_moved, DifferNear}
+use Rattle.dt_propagate.specs.Marks.{has_at, names_at, is_named_at, DifferBelow}
 use Rattle.dt_propagate.specs.Touched.{TouchAll, takes, is_of_any, names_any}
 use Rattle.dt_propagate.specs.Walk.{is_same_answer, told_change}
 use Rattle.dt_propagate.proofs.Boxes.{In-from_turn}
@@ -100,18 +100,11 @@ at_listed [] position class h = absurd (false≢true h)
 at_listed (x ∷ classes) zero class h = or_left (x == class) (has_number classes class) h
 at_listed (x ∷ classes) (suc position) class h = or_right (x == class) (has_number classes class) (at_listed classes position class h)
 
-not_moved : (a b : Bool) → ((a && not b) || (b && not a)) ≡ false → a ≡ b
-not_moved true true h = refl
-not_moved true false h = absurd (false≢true (sym h))
-not_moved false true h = absurd (false≢true (sym h))
-not_moved false false h = refl
-
 none_met : (position : ℕ) (classes : List ℕ) → is_marked (λ position class. false) position classes ≡ false
 none_met position [] = refl
 none_met position (class ∷ classes) = none_met (position + 1) classes
 
-module _ (old new : Program) (selector : ℕ) (keys : List DefinitionKey) (edited moved : List ℕ) (differ : DifferNear old new keys edited)
-    (moved_is : (n : ℕ) → has_number moved n ≡ list_any (λ class. is_moved old.graph.links new.graph.links class n) edited)
+module _ (old new : Program) (selector : ℕ) (keys : List DefinitionKey) (moved : List ℕ) (differ : DifferBelow old new keys moved)
     (no_key : is_of_any keys selector ≡ false) (no_name : names_any old new moved selector ≡ false) where
   -- a class that a definition of the selector names is among its names
   key_named : (program : Program) (position high : ℕ) → names_at program selector position high ≡ true →
@@ -125,21 +118,14 @@ module _ (old new : Program) (selector : ℕ) (keys : List DefinitionKey) (edite
 
   named_stays : (position class high : ℕ) → IsTrue (is_named_at old new selector position high) →
       is_below old.graph.links class high ≡ is_below new.graph.links class high
-  named_stays position class high there =
-      let links_old = old.graph.links in
-      let links_new = new.graph.links in
-      by_cases (has_number edited class)
-      (λ t.
-      by_cases (is_moved links_old links_new class high)
-      (λ m.
-      let listed : has_number moved high ≡ true = moved_is high ∙ any_listed (λ c. is_moved links_old links_new c high) edited class t m in
+  named_stays position class high there = by_cases (has_number moved high)
+      (λ listed.
       let named : (is_of_any (naming old.definitions high) selector || is_of_any (naming new.definitions high) selector) ≡ true = ⊎_elim
       (λ a. or_left (is_of_any (naming old.definitions high) selector) (is_of_any (naming new.definitions high) selector) (key_named old position high a))
       (λ a. or_right (is_of_any (naming old.definitions high) selector) (is_of_any (naming new.definitions high) selector) (key_named new position high a))
       (or_cases (names_at old selector position high) (names_at new selector position high) there) in
       absurd (false≢true (sym no_name ∙ any_listed (λ c. is_of_any (naming old.definitions c) selector || is_of_any (naming new.definitions c) selector)
       moved high listed named)))
-      (λ f. not_moved (is_below links_old class high) (is_below links_new class high) f))
       (λ f. differ.others class high f)
 
   nothing_marked : MarksTell (λ position class. false) (is_named_at old new selector) old new
@@ -174,18 +160,17 @@ module _ (old new : Program) (selector : ℕ) (keys : List DefinitionKey) (edite
       (no_candidate old query e) (no_candidate new query e)
 
 -- so of a selector that isn't in the set nothing is told
-pub touch_all : (old new : Program) (keys : List DefinitionKey) (edited moved touched : List ℕ) → DifferNear old new keys edited →
-    ((n : ℕ) → has_number moved n ≡ list_any (λ class. is_moved old.graph.links new.graph.links class n) edited) →
+pub touch_all : (old new : Program) (keys : List DefinitionKey) (moved touched : List ℕ) → DifferBelow old new keys moved →
     ((n : ℕ) → has_number touched n ≡ (is_of_any keys n || names_any old new moved n)) → TouchAll old new touched
-touch_all old new keys edited moved touched differ moved_is touched_is selector unset =
+touch_all old new keys moved touched differ touched_is selector unset =
     let parts = or_parts (is_of_any keys selector) (names_any old new moved selector) (sym (touched_is selector) ∙ unset) in
     empty_list (told_of (told_change old new) all_arities selector) (λ x i.
     let t = In-from_turn (λ arity. told_after (told_change old new) selector arity []) all_arities x i in
     let a = told_from (λ change. change.query) (told_change old new) (told_once old new) selector t.0 [] x t.2 in
     let query : Query = record { selector = selector; classes = a.rest } in
     (told_differs old new query x a.there).0
-    (untouched_stays old new selector keys edited moved differ moved_is parts.0 parts.1
-    (names_old old new selector keys edited differ) (names_new old new selector keys edited differ) query refl))
+    (untouched_stays old new selector keys moved differ parts.0 parts.1
+    (names_old old new selector keys moved differ) (names_new old new selector keys moved differ) query refl))
 
 pub touched_are : (before of_key named middle after : Bool) → before ≡ false → middle ≡ (before || of_key) → after ≡ (middle || named) →
     after ≡ (of_key || named)

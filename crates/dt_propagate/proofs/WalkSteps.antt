@@ -94,7 +94,7 @@ nothing_told old new selector keys nears all k prefix class not =
     let d' = subst (λ classes. Differs old new (record { selector = selector; classes = classes })) (append_assoc prefix (class ∷ []) a.rest) d in
     false≢true (sym not ∙ all prefix class a.rest d'))
 
-take_pushed : (xs : List ℕ) (x : ℕ) → take (length (xs ++ x ∷ []) - 1) (xs ++ x ∷ []) ≡ xs
+pub take_pushed : (xs : List ℕ) (x : ℕ) → take (length (xs ++ x ∷ []) - 1) (xs ++ x ∷ []) ≡ xs
 take_pushed xs x = let e : length (xs ++ x ∷ []) - 1 ≡ length xs = omega (arith, length-push xs) in
     ap (λ n. take n (xs ++ x ∷ [])) e ∙ front xs
   where
@@ -140,11 +140,20 @@ unmarked_goes links (near ∷ nears) (high ∷ highs) (first ∷ prefix) class t
     let parts = unmarked_parts near nears t in
     rw (none_listed near.marked first parts.0, unmarked_goes links nears highs prefix class parts.2) (and_nothing (is_below links first high))
 
-pub unmarked_none : (links : List Link) (nears : List Near) (defined : List Defined) (prefix : List ℕ) (n : ℕ) (before : Bool) → is_unmarked nears ≡ true →
-    before ≡ (before || list_any (λ d. goes_on links nears false d.classes prefix n) defined)
-unmarked_none links nears defined prefix n before t =
-    let none = along defined in grind (arith, none)
+unmarked_defined : (program : Program) (selector : ℕ) (nears : List Near) (prefix : List ℕ) (n : ℕ) → is_unmarked nears ≡ true →
+    goes_on_defined program selector nears prefix n ≡ false
+unmarked_defined program selector nears prefix n t = along (definitions_of program selector)
   where
-    along : (defined : List Defined) → list_any (λ d. goes_on links nears false d.classes prefix n) defined ≡ false
+    along : (definitions : List Definition) → list_any (λ d. goes_on program.graph.links nears false d.classes prefix n) definitions ≡ false
     along [] = refl
-    along (d ∷ defined) = rw (unmarked_goes links nears d.classes prefix n t) (along defined)
+    along (d ∷ definitions) = rw (unmarked_goes program.graph.links nears d.classes prefix n t) (along definitions)
+
+-- a class goes on below the keys alone
+pub unmarked_next : (old new : Program) (selector : ℕ) (keys : List DefinitionKey) (nears : List Near) (prefix : List ℕ) (n : ℕ)
+    (before middle after : Bool) → is_unmarked nears ≡ true → before ≡ false →
+    middle ≡ (before || goes_on_redefined old selector keys nears prefix n) →
+    after ≡ (middle || goes_on_redefined new selector keys nears prefix n) →
+    after ≡ goes_next old new selector keys nears prefix n
+unmarked_next old new selector keys nears prefix n before middle after t none m a =
+    rw (unmarked_defined old selector nears prefix n t, unmarked_defined new selector nears prefix n t)
+    (a ∙ ap (λ b. b || goes_on_redefined new selector keys nears prefix n) (m ∙ ap (λ b. b || goes_on_redefined old selector keys nears prefix n) none))

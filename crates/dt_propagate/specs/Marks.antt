@@ -1,5 +1,5 @@
 -- Which classes are marked at a position, so that a query with no marked class keeps its cell but for definitions that differ.
-use Rattle.std.specs.Prelude.{◌≡◌, ◌==◌, ℕ, zero, suc, Bool, false, true, ◌&&◌, ◌||◌, not, IsTrue, List, [], ◌∷◌, filter}
+use Rattle.std.specs.Prelude.{◌≡◌, ◌==◌, ℕ, zero, suc, ◌<◌, Bool, false, true, ◌&&◌, ◌||◌, not, IsTrue, List, [], ◌∷◌, filter}
 use Rattle.std.specs.List.{list_any}
 use Rattle.dt_graph.specs.Graph.{Link, has_number}
 use Rattle.dt_graph.specs.Below.{is_below}
@@ -38,8 +38,16 @@ pub record DifferNear (old new : Program) (keys : List DefinitionKey) (edited : 
   pub others : (low high : ℕ) → has_number edited low ≡ false →
       is_below old.graph.links low high ≡ is_below new.graph.links low high
 
+-- two programs that differ in the definitions at these keys, and in what is below these classes
+pub record DifferBelow (old new : Program) (keys : List DefinitionKey) (moved : List ℕ) : Type 0 where
+  pub old_lawful : Lawful old
+  pub new_lawful : Lawful new
+  pub definitions : OthersStayDefined keys old.definitions new.definitions
+  pub others : (low high : ℕ) → has_number moved high ≡ false →
+      is_below old.graph.links low high ≡ is_below new.graph.links low high
+
 -- a class that isn't marked at the position is below the same classes that are named there, and those are in the same
--- order; and all that are above a marked one are listed
+-- order; and from the second position on, all that are above a marked one are listed
 pub record NearTells (old new : Program) (selector position : ℕ) (near : Near) : Type 0 where
   pub same_above : (class high : ℕ) → has_number near.marked class ≡ false →
       IsTrue (is_named_at old new selector position high) →
@@ -47,7 +55,7 @@ pub record NearTells (old new : Program) (selector position : ℕ) (near : Near)
   pub same_order : (class a b : ℕ) → has_number near.marked class ≡ false →
       IsTrue (is_named_at old new selector position a) → IsTrue (is_named_at old new selector position b) →
       is_below old.graph.links class a ≡ true → is_below old.graph.links a b ≡ is_below new.graph.links a b
-  pub listed_above : (class high : ℕ) → IsTrue (has_number near.marked class) →
+  pub listed_above : 0 < position → (class high : ℕ) → IsTrue (has_number near.marked class) →
       IsTrue (is_below_in old.graph.links new.graph.links class high) → IsTrue (has_number near.above high)
 
 -- so for each position, from the given one on
@@ -57,7 +65,7 @@ NearsTell old new selector position (near ∷ nears) =
     NearTells old new selector position near × NearsTell old new selector (suc position) nears
 
 -- of the keys at which the definitions differ these are the selector's
-pub record HasOwnKeys (old new : Program) (selector : ℕ) (own : List DefinitionKey) (edited : List ℕ) : Type 0 where
+pub record HasOwnKeys (old new : Program) (selector : ℕ) (own : List DefinitionKey) (moved : List ℕ) : Type 0 where
   pub all : List DefinitionKey
-  pub differ : DifferNear old new all edited
+  pub differ : DifferBelow old new all moved
   pub own_is : own ≡ filter (λ key. key.selector == selector) all

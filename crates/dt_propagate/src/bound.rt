@@ -174,7 +174,7 @@ pub(crate) fn bound(old: &Program, new: &Program, site: &Site, sizes: Sizes) -> 
 {
     old.law();
     new.law();
-    if is_none_gained(old.graph(), new.graph(), site.edited.classes().as_slice()) {
+    if is_none_gained(old.graph(), new.graph(), &site.edited) {
         with_keys(old, new, &site.keys, sizes)
     } else {
         sizes_below(new)

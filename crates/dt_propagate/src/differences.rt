@@ -6,6 +6,7 @@ ghost use Rattle.dt_propagate.specs.Marks.{DifferNear};
 ghost use Rattle.dt_propagate.specs.Walk.{told_change};
 
 use crate::found::Found;
+use crate::marks::moved;
 use crate::site::Site;
 use crate::touched::touched;
 use crate::walk::push_all;
@@ -28,8 +29,9 @@ fn push_touched<L: Ledger>(
     ensures counted { OnOk result (CountsOn steps.old steps.new out.old.counted out.new.counted) }
     ensures grows { steps.old ≤ steps.new }
 {
-    let touched = touched(old, new, keys, edited);
-    push_all(old, new, keys, edited, &touched, steps, out)
+    let moved = moved(old.graph(), new.graph(), edited);
+    let touched = touched(old, new, keys, &moved);
+    push_all(old, new, keys, &moved, &touched, steps, out)
 }
 
 // The differences of two programs that may differ there.

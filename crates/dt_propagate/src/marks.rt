@@ -1,9 +1,9 @@
-ghost use Rattle.std.specs.Prelude.{◌≡◌, ℕ, zero, false, ◌&&◌, ◌||◌, IsTrue, List, length};
+ghost use Rattle.std.specs.Prelude.{◌≡◌, ℕ, zero, ◌<◌, ◌||◌, IsTrue, List, [], length};
 ghost use Rattle.std.specs.List.{list_any};
 ghost use Rattle.dt_graph.specs.Graph.{has_number};
 ghost use Rattle.dt_graph.specs.Below.{is_below};
 ghost use Rattle.dt_definitions.specs.Program.{definitions_of};
-ghost use Rattle.dt_propagate.specs.Marks.{DifferNear, NearTells, NearsTell, has_at, is_below_in, is_moved, is_named_at};
+ghost use Rattle.dt_propagate.specs.Marks.{DifferBelow, NearTells, NearsTell, has_at, is_below_in, is_moved, is_named_at};
 ghost use Rattle.dt_definitions.specs.declared.definition_key.DefinitionKey.{DefinitionKey};
 
 use crate::near::Near;
@@ -23,28 +23,48 @@ pub(crate) fn below_edited(old: &ClassGraph, new: &ClassGraph, edited: &[ClassNo
     below
 }
 
+// The classes at or above the class in one of the two graphs are in the set from now on.
+fn insert_above(old: &ClassGraph, new: &ClassGraph, class: ClassNo, above: &mut ClassSet)
+    ensures { (n : ℕ) → has_number above.new n ≡ (has_number above.old n || is_below_in old.now.links new.now.links class n) }
+{
+    above.insert_all(old.above(class));
+    above.insert_all(new.above(class));
+}
+
 // The classes at or above one of these in one of the two graphs.
-fn above_all(old: &ClassGraph, new: &ClassGraph, lows: &[ClassNo]) -> ClassSet
+fn above_all(old: &ClassGraph, new: &ClassGraph, lows: &ClassSet) -> ClassSet
     ensures { (n : ℕ) → has_number result n ≡ list_any (λ class. is_below_in old.now.links new.now.links class n) lows.now }
 {
+    lows.law();
     let mut above = ClassSet::new();
-    for class in lows {
-        above.insert_all(old.above(*class));
-        above.insert_all(new.above(*class));
+    let mut least = 0;
+    while let Some(class) = lows.first_from(least) {
+        insert_above(old, new, class, &mut above);
+        least = class.number() as usize + 1;
     }
     above
 }
 
+// The classes that the class is below in one graph alone are in the set from now on.
+fn insert_moved(old: &ClassGraph, new: &ClassGraph, class: ClassNo, moved: &mut ClassSet)
+    ensures { (n : ℕ) → has_number moved.new n ≡ (has_number moved.old n || is_moved old.now.links new.now.links class n) }
+{
+    let before = old.above(class);
+    let after = new.above(class);
+    moved.insert_all(&before.without(after));
+    moved.insert_all(&after.without(before));
+}
+
 // The classes that one of these is below in one of the two graphs alone.
-pub(crate) fn moved(old: &ClassGraph, new: &ClassGraph, lows: &[ClassNo]) -> ClassSet
+pub(crate) fn moved(old: &ClassGraph, new: &ClassGraph, lows: &ClassSet) -> ClassSet
     ensures { (n : ℕ) → has_number result n ≡ list_any (λ class. is_moved old.now.links new.now.links class n) lows.now }
 {
+    lows.law();
     let mut moved = ClassSet::new();
-    for class in lows {
-        let before = old.above(*class);
-        let after = new.above(*class);
-        moved.insert_all(&before.without(after));
-        moved.insert_all(&after.without(before));
+    let mut least = 0;
+    while let Some(class) = lows.first_from(least) {
+        insert_moved(old, new, class, &mut moved);
+        least = class.number() as usize + 1;
     }
     moved
 }
@@ -57,14 +77,17 @@ fn gains_none(old: &ClassGraph, new: &ClassGraph, class: ClassNo) -> bool
 }
 
 // Whether none of these is; where it isn't so, nothing is said.
-pub(crate) fn is_none_gained(old: &ClassGraph, new: &ClassGraph, lows: &[ClassNo]) -> bool
+pub(crate) fn is_none_gained(old: &ClassGraph, new: &ClassGraph, lows: &ClassSet) -> bool
     ensures { IsTrue result → (low high : ℕ) → IsTrue (has_number lows.now low) → IsTrue (is_below new.now.links low high)
         → IsTrue (is_below old.now.links low high) }
 {
-    for class in lows {
-        if !gains_none(old, new, *class) {
+    lows.law();
+    let mut least = 0;
+    while let Some(class) = lows.first_from(least) {
+        if !gains_none(old, new, class) {
             return false;
         }
+        least = class.number() as usize + 1;
     }
     true
 }
@@ -88,53 +111,41 @@ fn insert_named(definitions: &[Defined], position: usize, named: &mut ClassSet)
     }
 }
 
-// Whether all of these that are named are in the other set.
-fn has_named(from: &ClassSet, to: &ClassSet, named: &ClassSet) -> bool
-    ensures { IsTrue result → (n : ℕ) → IsTrue (has_number from.now n) → IsTrue (has_number named.now n)
-        → IsTrue (has_number to.now n) }
+// The classes that are below the class in one graph alone are in the set from now on.
+fn insert_changed(old: &ClassGraph, new: &ClassGraph, high: ClassNo, changed: &mut ClassSet)
+    ensures { (n : ℕ) → has_number changed.new n ≡ (has_number changed.old n || is_moved old.now.links new.now.links n high) }
 {
-    from.without(to).intersection(named).len() == 0
+    let before = old.below(high);
+    let after = new.below(high);
+    changed.insert_all(&before.without(after));
+    changed.insert_all(&after.without(before));
 }
 
-// Whether the class is below the same named classes in both graphs; where it isn't, nothing is said.
-fn sees_same(old: &ClassGraph, new: &ClassGraph, named: &ClassSet, class: ClassNo) -> bool
-    ensures { IsTrue result → (high : ℕ) → IsTrue (has_number named.now high)
-        → is_below old.now.links class high ≡ is_below new.now.links class high }
+// The classes that are below one of these in one of the two graphs alone.
+pub(crate) fn changed(old: &ClassGraph, new: &ClassGraph, highs: &ClassSet) -> ClassSet
+    ensures { (n : ℕ) → has_number result n ≡ list_any (λ high. is_moved old.now.links new.now.links n high) highs.now }
 {
-    let before = old.above(class);
-    let after = new.above(class);
-    has_named(before, after, named) && has_named(after, before, named)
-}
-
-// Those of the classes that may be below other named classes.
-pub(crate) fn changed(
-    old: &ClassGraph,
-    new: &ClassGraph,
-    named: &ClassSet,
-    lows: &[ClassNo],
-) -> ClassSet
-    ensures { (low high : ℕ) → IsTrue (has_number lows.now low) → has_number result low ≡ false
-        → IsTrue (has_number named.now high) → is_below old.now.links low high ≡ is_below new.now.links low high }
-{
+    highs.law();
     let mut changed = ClassSet::new();
-    for class in lows {
-        if !sees_same(old, new, named, *class) {
-            changed.insert(*class);
-        }
+    let mut least = 0;
+    while let Some(high) = highs.first_from(least) {
+        insert_changed(old, new, high, &mut changed);
+        least = high.number() as usize + 1;
     }
     changed
 }
 
-// The classes, and all at or below those of them that are named.
-fn marked(old: &ClassGraph, changed: &ClassSet, named: &ClassSet) -> ClassSet
+// The classes, and all at or below one of those that are named, too.
+fn marked(old: &ClassGraph, changed: &ClassSet, highs: &ClassSet) -> ClassSet
     ensures { (n : ℕ) → has_number result n
-        ≡ (has_number changed.now n || list_any (λ class. is_below old.now.links n class && has_number named.now class) changed.now) }
+        ≡ (has_number changed.now n || list_any (λ class. is_below old.now.links n class) highs.now) }
 {
+    highs.law();
     let mut marked = changed.copy();
-    for class in changed.classes().as_slice() {
-        if named.contains(*class) {
-            marked.insert_all(old.below(*class));
-        }
+    let mut least = 0;
+    while let Some(class) = highs.first_from(least) {
+        marked.insert_all(old.below(class));
+        least = class.number() as usize + 1;
     }
     marked
 }
@@ -149,45 +160,57 @@ fn named_at(old: &Program, new: &Program, selector: SelNo, position: usize) -> C
     named
 }
 
-// The marked classes of a position.
-fn near_at(
-    old: &Program,
-    new: &Program,
-    selector: SelNo,
-    edited: &ClassSet,
-    position: usize,
-) -> Near
-    ensures { (keys : List DefinitionKey) → DifferNear old.now new.now keys edited.now
+// No class is marked.
+fn unmarked() -> Near
+    ensures marked { result.marked ≡ [] }
+    ensures above { result.above ≡ [] }
+{
+    Near {
+        marked: ClassSet::new(),
+        above: ClassSet::new(),
+    }
+}
+
+// The classes above the marked ones of a position. What is above those of the first position is never asked for.
+fn above_marked(old: &Program, new: &Program, position: usize, marked: &ClassSet) -> ClassSet
+    ensures { 0 < position → (n : ℕ) → has_number result n
+        ≡ list_any (λ class. is_below_in old.now.graph.links new.now.graph.links class n) marked.now }
+{
+    if position == 0 {
+        return ClassSet::new();
+    }
+    above_all(old.graph(), new.graph(), marked)
+}
+
+// The marked classes of a position: none where no class that moved is named there.
+fn near_at(old: &Program, new: &Program, selector: SelNo, moved: &ClassSet, position: usize) -> Near
+    ensures { (keys : List DefinitionKey) → DifferBelow old.now new.now keys moved.now
         → NearTells old.now new.now selector position result }
 {
-    if edited.len() == 0 {
-        return Near {
-            marked: ClassSet::new(),
-            above: ClassSet::new(),
-        };
-    }
     let named = named_at(old, new, selector, position);
-    let changed = changed(
-        old.graph(),
-        new.graph(),
-        &named,
-        edited.classes().as_slice(),
-    );
-    let marked = marked(old.graph(), &changed, &named);
-    let above = above_all(old.graph(), new.graph(), marked.classes().as_slice());
+    let seen = named.intersection(moved);
+    if seen.len() == 0 {
+        return unmarked();
+    }
+    let changed = changed(old.graph(), new.graph(), &seen);
+    let marked = marked(old.graph(), &changed, &changed.intersection(&named));
+    let above = above_marked(old, new, position, &marked);
     Near { marked, above }
 }
 
 // The marked classes of each position.
-pub(crate) fn nears(old: &Program, new: &Program, selector: SelNo, edited: &ClassSet) -> [Near; 4]
+pub(crate) fn nears(old: &Program, new: &Program, selector: SelNo, moved: &ClassSet) -> [Near; 4]
     ensures four { length result ≡ 4 }
-    ensures tell { (keys : List DefinitionKey) → DifferNear old.now new.now keys edited.now
+    ensures tell { (keys : List DefinitionKey) → DifferBelow old.now new.now keys moved.now
         → NearsTell old.now new.now selector 0 result }
 {
+    if moved.len() == 0 {
+        return [unmarked(), unmarked(), unmarked(), unmarked()];
+    }
     [
-        near_at(old, new, selector, edited, 0),
-        near_at(old, new, selector, edited, 1),
-        near_at(old, new, selector, edited, 2),
-        near_at(old, new, selector, edited, 3),
+        near_at(old, new, selector, moved, 0),
+        near_at(old, new, selector, moved, 1),
+        near_at(old, new, selector, moved, 2),
+        near_at(old, new, selector, moved, 3),
     ]
 }

@@ -7,7 +7,8 @@ use dt_definitions::{Defined, DefinitionKey};
 use dt_graph::{ClassGraph, ClassNo, ClassSet};
 use dt_selectors::SelNo;
 
-// For one position: the classes at which the cells of a selector may differ, and all that are above one of them.
+// For one position: the classes at which the cells of a selector may differ, and, but for the first position, all that are
+// above one of them.
 #[derive(Debug, Drop)]
 pub(crate) struct Near {
     pub(crate) marked: ClassSet,
@@ -28,7 +29,7 @@ fn is_any_above(nears: &[Near], highs: &[ClassNo]) -> bool
 }
 
 // Whether no class is marked at any position, and none is above one.
-fn is_unmarked(nears: &[Near]) -> bool
+pub(crate) fn is_unmarked(nears: &[Near]) -> bool
     ensures { result ≡ is_unmarked nears.now }
 {
     let [near, nears @ ..] = nears else {
@@ -88,9 +89,6 @@ pub(crate) fn insert_defined(
     ensures { (n : ℕ) → has_number next.new n
         ≡ (has_number next.old n || list_any (λ d. goes_on graph.now.links nears.now false d.classes prefix.now n) definitions.now) }
 {
-    if is_unmarked(nears) {
-        return;
-    }
     for defined in definitions {
         insert_below(graph, nears, false, defined.classes.classes(), prefix, next);
     }

@@ -2,13 +2,13 @@ ghost use Rattle.std.specs.Prelude.{◌≡◌, ℕ, ◌+◌, ◌<◌, ◌≤◌,
 ghost use Rattle.dt_graph.specs.Graph.{has_number};
 ghost use Rattle.dt_propagate.specs.Counted.{CountsOn};
 ghost use Rattle.dt_propagate.specs.GoneThrough.{all_arities, told_after, told_of, told_of_all};
-ghost use Rattle.dt_propagate.specs.Marks.{DifferNear, HasOwnKeys};
+ghost use Rattle.dt_propagate.specs.Marks.{DifferBelow, HasOwnKeys};
 ghost use Rattle.dt_propagate.specs.Touched.{TouchAll, takes};
 ghost use Rattle.dt_propagate.specs.Walk.{GoesThroughAll, goes_next, goes_on_in, told_change};
 
 use crate::found::Found;
 use crate::marks::nears;
-use crate::near::{Near, insert_defined, insert_redefined};
+use crate::near::{Near, insert_defined, insert_redefined, is_unmarked};
 use crate::selector_set::SelectorSet;
 use crate::told::{push_told, query_at};
 use arrayvec::ArrayVec;
@@ -35,7 +35,7 @@ fn insert_next(
     insert_redefined(graph, nears, selector, keys, prefix, next);
 }
 
-// The classes that go on from the prefix in one of the two programs.
+// The classes that go on from the prefix in one of the two programs. Where no class is marked, they are below the keys.
 fn next_classes(
     old: &Program,
     new: &Program,
@@ -47,6 +47,11 @@ fn next_classes(
     ensures { (n : ℕ) → has_number result n ≡ goes_next old.now new.now selector keys.now nears.now prefix.now n }
 {
     let mut next = ClassSet::new();
+    if is_unmarked(nears) {
+        insert_redefined(old.graph(), nears, selector, keys, prefix, &mut next);
+        insert_redefined(new.graph(), nears, selector, keys, prefix, &mut next);
+        return next;
+    }
     insert_next(old, selector, keys, nears, prefix, &mut next);
     insert_next(new, selector, keys, nears, prefix, &mut next);
     next
@@ -78,9 +83,9 @@ fn push_after<L: Ledger>(
     }
     let next = next_classes(old, new, selector, keys, nears, prefix);
     next.law();
-    let classes = next.classes();
-    for class in classes.as_slice() {
-        prefix.push(*class);
+    let mut least = 0;
+    while let Some(class) = next.first_from(least) {
+        prefix.push(class);
         push_after(
             old,
             new,
@@ -93,6 +98,7 @@ fn push_after<L: Ledger>(
             out,
         )?;
         prefix.pop();
+        least = class.number() as usize + 1;
     }
     Ok(())
 }
@@ -113,12 +119,12 @@ fn push_with_arity<L: Ledger>(
     new: &Program,
     selector: SelNo,
     keys: &[DefinitionKey],
-    edited: &ClassSet,
+    moved: &ClassSet,
     arity: usize,
     steps: &mut Steps<L>,
     out: &mut Found,
 ) -> Result<(), NoMemory>
-    requires own { HasOwnKeys old.now new.now selector keys.now edited.now }
+    requires own { HasOwnKeys old.now new.now selector keys.now moved.now }
     requires some { 0 < arity }
     requires few { arity ≤ 4 }
     ensures told { OnOk result (out.new.changes.items ≡ out.old.changes.items
@@ -130,7 +136,7 @@ fn push_with_arity<L: Ledger>(
     if !takes(old, selector, arity) && !takes(new, selector, arity) {
         return Ok(());
     }
-    let nears = nears(old, new, selector, edited);
+    let nears = nears(old, new, selector, moved);
     let mut prefix = ArrayVec::new();
     push_after(
         old,
@@ -151,17 +157,17 @@ fn push_arities<L: Ledger>(
     new: &Program,
     selector: SelNo,
     keys: &[DefinitionKey],
-    edited: &ClassSet,
+    moved: &ClassSet,
     steps: &mut Steps<L>,
     out: &mut Found,
 ) -> Result<(), NoMemory>
-    requires own { HasOwnKeys old.now new.now selector keys.now edited.now }
+    requires own { HasOwnKeys old.now new.now selector keys.now moved.now }
     ensures told { OnOk result (out.new.changes.items ≡ out.old.changes.items ++ told_of (told_change old.now new.now) all_arities selector) }
     ensures counted { OnOk result (CountsOn steps.old steps.new out.old.counted out.new.counted) }
     ensures grows { steps.old ≤ steps.new }
 {
     for arity in 1..5 {
-        push_with_arity(old, new, selector, keys, edited, arity, steps, out)?;
+        push_with_arity(old, new, selector, keys, moved, arity, steps, out)?;
     }
     Ok(())
 }
@@ -189,18 +195,18 @@ fn push_of<L: Ledger>(
     new: &Program,
     selector: SelNo,
     keys: &[DefinitionKey],
-    edited: &ClassSet,
+    moved: &ClassSet,
     steps: &mut Steps<L>,
     out: &mut Found,
 ) -> Result<(), NoMemory>
-    requires near { DifferNear old.now new.now keys.now edited.now }
+    requires near { DifferBelow old.now new.now keys.now moved.now }
     ensures told { OnOk result (out.new.changes.items ≡ out.old.changes.items
         ++ told_of (told_change old.now new.now) all_arities selector) }
     ensures counted { OnOk result (CountsOn steps.old steps.new out.old.counted out.new.counted) }
     ensures grows { steps.old ≤ steps.new }
 {
     let own = keys_of(*out.changes.allocator(), keys, selector)?;
-    push_arities(old, new, selector, &own, edited, steps, out)
+    push_arities(old, new, selector, &own, moved, steps, out)
 }
 
 // What is told of the queries of all selectors goes to the end. Those that aren't in the set are passed over.
@@ -208,12 +214,12 @@ pub(crate) fn push_all<L: Ledger>(
     old: &Program,
     new: &Program,
     keys: &[DefinitionKey],
-    edited: &ClassSet,
+    moved: &ClassSet,
     touched: &SelectorSet,
     steps: &mut Steps<L>,
     out: &mut Found,
 ) -> Result<(), NoMemory>
-    requires near { DifferNear old.now new.now keys.now edited.now }
+    requires near { DifferBelow old.now new.now keys.now moved.now }
     requires touched { TouchAll old.now new.now touched.now }
     ensures told { OnOk result (out.new.changes.items ≡ out.old.changes.items ++ told_of_all (told_change old.now new.now) all_arities) }
     ensures counted { OnOk result (CountsOn steps.old steps.new out.old.counted out.new.counted) }
@@ -223,7 +229,7 @@ pub(crate) fn push_all<L: Ledger>(
     touched.law();
     let mut least = 0;
     while let Some(selector) = touched.first_from(least) {
-        push_of(old, new, selector, keys, edited, steps, out)?;
+        push_of(old, new, selector, keys, moved, steps, out)?;
         least = selector.number() as usize + 1;
     }
     Ok(())

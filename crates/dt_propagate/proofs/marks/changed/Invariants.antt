@@ -1,7 +1,16 @@
-use Rattle.std.proofs.Common.{◌≡◌, ℕ, false, IsTrue, take}
+use Rattle.std.proofs.Common.{◌≡◌, ℕ, ◌-◌, ◌≤◌, ◌||◌, false}
+use Rattle.std.specs.List.{list_any}
 use Rattle.dt_graph.specs.Graph.{has_number}
-use Rattle.dt_graph.specs.Below.{is_below}
+use Rattle.dt_graph.specs.declared.limits.TheConstants.{CLASSES}
+use Rattle.dt_propagate.specs.Marks.{is_moved}
+use Rattle.dt_propagate.proofs.WalkedSets.{gone_by}
 use Rattle.dt_propagate.proofs.marks.changed.Given as goal
 
-abbrev pub invariant-loop-class : goal.invariant-loop-class
-invariant-loop-class l = (low high : ℕ) → IsTrue (has_number (take l.class-index l.fn.lows) low) → has_number l.changed low ≡ false → IsTrue (has_number l.fn.named high) → is_below l.fn.old.links low high ≡ is_below l.fn.new.links low high
+abbrev pub decreases-loop-high : goal.decreases-loop-high
+decreases-loop-high l = CLASSES - l.least
+
+abbrev pub invariant-loop-high : goal.invariant-loop-high
+invariant-loop-high l = record {
+  low : l.least ≤ CLASSES;
+  gone : (n : ℕ) → has_number l.changed n ≡ (false || list_any (λ high. is_moved l.fn.old.links l.fn.new.links n high) (gone_by l.least l.fn.highs));
+}

@@ -1,8 +1,16 @@
-use Rattle.std.proofs.Common.{◌≡◌, ℕ, take}
+use Rattle.std.proofs.Common.{◌≡◌, ℕ, ◌-◌, ◌≤◌, ◌||◌, false}
 use Rattle.std.specs.List.{list_any}
 use Rattle.dt_graph.specs.Graph.{has_number}
+use Rattle.dt_graph.specs.declared.limits.TheConstants.{CLASSES}
 use Rattle.dt_propagate.specs.Marks.{is_moved}
+use Rattle.dt_propagate.proofs.WalkedSets.{gone_by}
 use Rattle.dt_propagate.proofs.marks.moved.Given as goal
 
+abbrev pub decreases-loop-class : goal.decreases-loop-class
+decreases-loop-class l = CLASSES - l.least
+
 abbrev pub invariant-loop-class : goal.invariant-loop-class
-invariant-loop-class l = (n : ℕ) → has_number l.moved n ≡ list_any (λ class. is_moved l.fn.old.links l.fn.new.links class n) (take l.class-index l.fn.lows)
+invariant-loop-class l = record {
+  low : l.least ≤ CLASSES;
+  gone : (n : ℕ) → has_number l.moved n ≡ (false || list_any (λ class. is_moved l.fn.old.links l.fn.new.links class n) (gone_by l.least l.fn.lows));
+}

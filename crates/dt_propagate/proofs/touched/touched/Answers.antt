@@ -1,4 +1,4 @@
-use Rattle.std.proofs.Common.{◌||◌, ap, ◌∙◌}
+use Rattle.std.proofs.Common.{ap}
 use Rattle.dt_graph.specs.Graph.{has_number}
 use Rattle.dt_propagate.specs.Touched.{is_of_any, names_any}
 use Rattle.dt_propagate.proofs.Touching.{touch_all, touched_are}
@@ -9,12 +9,8 @@ returns c =
     let old = c.args.old.now in
     let new = c.args.new.now in
     let keys = c.args.keys.now in
-    let moved = c.moved-moved.ensures in
-    let lows = c.as_slice.ensures.value ∙ c.classes.ensures in
-    let named = c.as_slice-2.ensures.value ∙ c.classes-2.ensures in
-    touch_all old new keys c.args.edited.now c.moved-moved.result c.touch_named.new.touched c.requires
-    (rw (c.graph.ensures, c.graph-2.ensures, lows) at moved)
-    (λ n. touched_are (has_number c.new-touched.result n) (is_of_any keys n) (names_any old new c.moved-moved.result n)
+    let moved = c.args.moved.now in
+    touch_all old new keys moved c.touch_named.new.touched c.requires
+    (λ n. touched_are (has_number c.new-touched.result n) (is_of_any keys n) (names_any old new moved n)
     (has_number c.touch.new.touched n) (has_number c.touch_named.new.touched n) (ap (λ ns. has_number ns n) c.new-touched.ensures)
-    (c.touch.ensures n)
-    (c.touch_named.ensures n ∙ ap (λ classes. has_number c.touch.new.touched n || names_any old new classes n) named))
+    (c.touch.ensures n) (c.touch_named.ensures n))

@@ -8,7 +8,7 @@ pub push_after-requires-clause-all : goal.push_after-requires-clause-all
 push_after-requires-clause-all g c =
     let own = c.requires.own in
     goes_through_own c.args.old.now c.args.new.now c.args.selector own.all c.args.keys.now c.nears-nears.result own.own_is
-    (goes_through_all c.args.old.now c.args.new.now c.args.selector own.all c.args.edited.now own.differ
+    (goes_through_all c.args.old.now c.args.new.now c.args.selector own.all c.args.moved.now own.differ
     c.nears-nears.result c.nears-nears.ensures.four (c.nears-nears.ensures.tell own.all own.differ))
 
 pub returns-then-not-takes-2 : goal.returns-then-not-takes-2
