@@ -16,10 +16,13 @@ use std::alloc::Global;
 #[derive(Drop)]
 pub struct Store<M: Meaning> {
     limits: Limits,
+    // How many words lie before those of page 0.
+    first_page: usize,
     pub(crate) table: Table<u8, View<M>, Size, Rule<M>, Global>,
     ghost readers: { table.shared.key.readers ≡ limits.readers },
     ghost pages: { table.shared.key.pages ≡ limits.pages },
     ghost entries: { table.shared.key.entries ≡ limits.entries },
+    ghost first: { first_page ≡ 1 + 3 * (limits.readers + 2) },
     ghost words: { table.shared.table_id.words ≡ word_count limits.readers limits.pages },
 }
 
@@ -41,10 +44,15 @@ impl<M: Meaning> Store<M> {
             pages: limits.pages as u64,
             entries: limits.entries as u64,
         };
-        let count = 1 + 3 * (limits.readers as usize + 2) + 512 * limits.pages as usize;
-        let words = zeros(alloc, count)?;
+        let first_page = 1 + 3 * (limits.readers as usize + 2);
+        let words = zeros(alloc, first_page + 512 * limits.pages as usize)?;
         let (table, place) = Table::of_words(alloc, &words, &size)?;
-        Ok((Store { limits, table }, AuthorSeat { place }))
+        let store = Store {
+            limits,
+            first_page,
+            table,
+        };
+        Ok((store, AuthorSeat { place }))
     }
 
     /// The numbers that it was made with.
@@ -60,6 +68,6 @@ impl<M: Meaning> Store<M> {
         requires at { at < page_words }
         ensures { result ≡ 1 + 3 * (self.now.limits.readers + 2) + (page_words * page + at) }
     {
-        1 + 3 * (self.limits.readers as usize + 2) + (512 * page as usize + at as usize)
+        self.first_page + (512 * page as usize + at as usize)
     }
 }
