@@ -17,7 +17,11 @@ use std::sync::ledger::{Blank, Ledger};
 fn page_of(word: u64) -> Option<u32>
     ensures { IfSome result (λ page. page ≡ word) }
 {
-    u32::try_from(word).ok()
+    if word < 65_536 {
+        Some(word as u32)
+    } else {
+        None
+    }
 }
 
 // The word at an address, through three pages; `None` where a word on the way down is the number of no page.

@@ -53,13 +53,15 @@ impl<'s> Turner<'s> {
     }
 
     // Polls the other root once: it is free where all that entered have left.
-    fn poll_once(&mut self, entries: u32) -> bool
+    fn poll_once(&mut self, root: u16, entries: u32) -> bool
+        requires root { root ≡ self.old.other }
         requires old { self.old.kept ≡ known.Old entries }
+        ensures other { self.new.other ≡ self.old.other }
         ensures free { result ≡ true → self.new.kept ≡ known.Free }
         ensures held { result ≡ false → self.new.kept ≡ self.old.kept }
         ensures store { self.new.author.store ≡ self.old.author.store }
     {
-        let exits = self.author.poll(self.other);
+        let exits = self.author.poll(root);
         let is_free = exits == entries;
         if is_free {
             self.kept = Known::Free;
@@ -88,7 +90,7 @@ impl<'s> Turner<'s> {
             return false;
         };
         let entries = self.publish_free(version);
-        self.poll_once(entries)
+        self.poll_once(self.other, entries)
     }
 
     // At most so many turns, from a free root on.
@@ -120,8 +122,9 @@ impl<'s> Turner<'s> {
         requires old { self.old.kept ≡ known.Old entries }
         ensures store { self.new.author.store ≡ self.old.author.store }
     {
+        let root = self.other;
         for done in 0..count {
-            if self.poll_once(entries) {
+            if self.poll_once(root, entries) {
                 return done;
             }
         }
