@@ -8,6 +8,7 @@ ghost use Rattle.dt_version.specs.Views.{seat_of};
 use crate::addresses::Addresses;
 use crate::anything::Anything;
 use crate::layout::place;
+use core::mem::replace_with;
 use dt_graph::Steps;
 use dt_version::ReaderSeat;
 use std::marker::Brand;
@@ -62,28 +63,42 @@ fn read_inside<L: Ledger>(
     sum
 }
 
-// The sum of so many words of one visit, in this ledger.
-fn read_all<L: Ledger>(
+// The sum of so many words of one visit, in this ledger. The seat is the visit's own, and no other thread's memory to the compiler.
+fn read_all<'s, L: Ledger>(
     blank: Blank,
-    seat: &mut ReaderSeat<'_, Anything>,
+    seat: ReaderSeat<'s, Anything>,
     addresses: &mut Addresses,
     count: u32,
-) -> u64
+) -> (ReaderSeat<'s, Anything>, u64)
     requires name { blank.name ≡ L.name }
     requires parts { blank.parts ≡ L.parts }
     requires some_part { 0 < blank.parts }
-    requires out { (seat_of seat.old.place).stage ≡ Out }
-    ensures out { (seat_of seat.new.place).stage ≡ Out }
-    ensures store { seat.new.store ≡ seat.old.store }
+    requires out { (seat_of seat.place).stage ≡ Out }
+    ensures out { (seat_of result.0.place).stage ≡ Out }
+    ensures store { result.0.store ≡ seat.entry.store }
 {
+    let mut seat = seat;
     let mut steps = Steps::<L>::start(blank);
     if seat.look(&mut steps).is_err() {
-        return 0;
+        return (seat, 0);
     }
     seat.enter(&mut steps);
-    let sum = read_inside(seat, addresses, count, &mut steps);
+    let sum = read_inside(&mut seat, addresses, count, &mut steps);
     seat.leave(&mut steps);
-    sum
+    (seat, sum)
+}
+
+// The same, in a ledger of its own.
+fn read_visit<'s>(
+    seat: ReaderSeat<'s, Anything>,
+    what: (&mut Addresses, u32),
+) -> (ReaderSeat<'s, Anything>, u64)
+    requires { (seat_of seat.place).stage ≡ Out }
+    ensures out { (seat_of result.0.place).stage ≡ Out }
+    ensures store { result.0.store ≡ seat.entry.store }
+{
+    let (addresses, count) = what;
+    read_all::<Brand>(Blank::new(1), seat, addresses, count)
 }
 
 /// Enters, reads the words at so many addresses through three pages each, and leaves. Answers the sum of the words.
@@ -92,5 +107,5 @@ pub fn read_many(seat: &mut ReaderSeat<'_, Anything>, addresses: &mut Addresses,
     ensures out { (seat_of seat.new.place).stage ≡ Out }
     ensures store { seat.new.store ≡ seat.old.store }
 {
-    read_all::<Brand>(Blank::new(1), seat, addresses, count)
+    replace_with(seat, (addresses, count), read_visit)
 }

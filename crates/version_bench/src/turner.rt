@@ -7,6 +7,7 @@ ghost use Rattle.version_bench.specs.declared.known.Known.TheVariants as known;
 use crate::anything::Anything;
 use crate::known::Known;
 use crate::layout::{READERS, TOP};
+use core::mem::replace_with;
 use dt_version::{Author, ReaderSeat, Swapped};
 
 /// An author that publishes on two roots in turn.
@@ -117,18 +118,21 @@ impl<'s> Turner<'s> {
         }
     }
 
-    // At most so many polls of a root that has these entries.
-    fn poll_old(&mut self, entries: u32, count: u32) -> u32
-        requires old { self.old.kept ≡ known.Old entries }
-        ensures store { self.new.author.store ≡ self.old.author.store }
+    // At most so many polls of a root that has these entries. The author is the loop's own, and no other thread's memory to the
+    // compiler.
+    fn poll_old(self, what: (u32, u32)) -> (Turner<'s>, u32)
+        requires old { self.kept ≡ known.Old what.0 }
+        ensures store { result.0.author.store ≡ self.entry.author.store }
     {
-        let root = self.other;
+        let mut turner = self;
+        let (entries, count) = what;
+        let root = turner.other;
         for done in 0..count {
-            if self.poll_once(root, entries) {
-                return done;
+            if turner.poll_once(root, entries) {
+                return (turner, done);
             }
         }
-        count
+        (turner, count)
     }
 
     /// Polls the other root so many times, or until it is free. The answer is how often it was found held.
@@ -137,7 +141,7 @@ impl<'s> Turner<'s> {
     {
         match self.kept {
             Known::Free => 0,
-            Known::Old(entries) => self.poll_old(entries, count),
+            Known::Old(entries) => replace_with(self, (entries, count), Turner::poll_old),
         }
     }
 }

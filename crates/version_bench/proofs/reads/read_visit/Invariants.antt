@@ -1,4 +1,4 @@
-use Rattle.version_bench.proofs.reads.read_many.Given as goal
+use Rattle.version_bench.proofs.reads.read_visit.Given as goal
 
 abbrev pub ghosts-read_all : goal.ghosts-read_all
 ghosts-read_all a = record { name = a.blank.name; parts = a.blank.parts }
