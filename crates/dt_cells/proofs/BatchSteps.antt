@@ -19,7 +19,7 @@ use Rattle.dt_cells.specs.Kind.{Kind, IsLawful, sets, Stay}
 use Rattle.dt_cells.specs.Standing.{CanStage}
 use Rattle.dt_cells.specs.Heads.{HasHeads, head_word, with_heads, class_word}
 use Rattle.dt_cells.specs.Serving.{Serves, IsRest}
-use Rattle.dt_cells.specs.Following.{IsTableOf, CanFollow}
+use Rattle.dt_cells.specs.Following.{IsTableOf, CanFollow, IsImageAfter, ImagesAreDetermined}
 use Rattle.dt_cells.proofs.Limits.{within_limits}
 use Rattle.dt_cells.proofs.Serving.{tuples_after, shown_serves, none_is_stray_after, rest_stays}
 
@@ -126,3 +126,17 @@ first k stands low standing = record {
   heads = record { classes = λ class below. refl; selectors = λ s below. refl };
   strays = λ s below unplaced. refl;
 }
+
+-- the words that the steps of a batch make
+pub words_made : (k : Kind) (x d y : Reading) (held : Held) (changes : List Change) (old new : Program) → ((address : ℕ) → d address ≡ with_heads old new x address)
+    → ((address : ℕ) → sets k changes address ≡ false → y address ≡ d address) → k.places x held changes y → IsImageAfter k x held changes old new y
+words_made k x d y held changes old new heads rest placed = record {
+  placed = placed;
+  rest = λ address unset. rest address unset ∙ heads address;
+}
+
+-- are determined, those that the kind sets by its own law
+pub one_image_after : (k : Kind) → IsLawful k → ImagesAreDetermined k
+one_image_after k l x y z held changes old new sh one other address = by_cases (sets k changes address)
+    (λ set. l.determined x y z held changes sh one.placed other.placed address set)
+    (λ unset. one.rest address unset ∙ sym (other.rest address unset))

@@ -1,10 +1,12 @@
 -- What is held after changes, and the words of a program, worked out.
+use Rattle.std.proofs.Common.{inl, inr, arith}
 use Rattle.std.specs.Prelude.{◌≡◌, ℕ, List, [], ◌∷◌, true, false, refl}
 use Rattle.dt_pages.specs.Reading.{blank}
 use Rattle.dt_definitions.specs.Program.{Program, empty_program}
 use Rattle.dt_scratch.specs.Query.{Query}
 use Rattle.dt_scratch.specs.declared.reply.Answer.TheVariants.{Method, NotUnderstood, Ambiguous}
 use Rattle.dt_scratch.specs.declared.reply.Change.{Change}
+use Rattle.dt_cells.specs.Regions.{IsCell}
 use Rattle.dt_cells.specs.Held.{none_held, held_after, is_changed, is_changed_place}
 use Rattle.dt_cells.specs.Heads.{class_word, head_word, with_heads}
 
@@ -64,3 +66,10 @@ and_back_again = refl
 
 other_words_stay : with_heads empty_program small (λ address. 9) 5 ≡ 9
 other_words_stay = refl
+
+-- between the cells of one class and the master array there is no cell
+no_cell_between : IsCell 33554432 → ⊥
+no_cell_between (from, below, part) = elim part [
+  | inl single ↦ omega (arith, single)
+  | inr master ↦ omega (arith, master)
+]

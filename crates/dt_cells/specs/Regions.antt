@@ -1,5 +1,5 @@
 -- Where the words of an image stand.
-use Rattle.std.specs.Prelude.{ℕ, ◌+◌, ◌<◌, ◌≤◌, ◌^◌}
+use Rattle.std.specs.Prelude.{◌⊎◌, ℕ, ◌+◌, ◌<◌, ◌≤◌, ◌^◌}
 
 -- there are so many class numbers, and so many selector numbers
 abbrev pub class_numbers : ℕ
@@ -20,6 +20,6 @@ place_of selector = 8192 + selector
 abbrev pub single_cells : ℕ
 single_cells = 2 ^ 24
 
--- the address is that of a cell
+-- the address is that of a cell: of one class, or of the master array
 abbrev pub IsCell : ℕ → Type 0
-IsCell address = (2 ^ 24 ≤ address) × (address < 2 ^ 27)
+IsCell address = (2 ^ 24 ≤ address) × (address < 2 ^ 27) × ((address < 2 ^ 25) ⊎ (2 ^ 26 ≤ address))

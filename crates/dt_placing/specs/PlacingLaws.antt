@@ -400,7 +400,7 @@ module _ (g : Geometry) where
 
   pub placing_is_lawful : IsLawful (placing g)
   placing_is_lawful = record {
-    owned_are_cells = λ address t. let o = owned address t in (omega (arith, o.0), omega (arith, o.1));
+    owned_are_cells = λ address t. let o = owned address t in (omega (arith, o.0), omega (arith, o.1), inl (omega (arith, o.1)));
     blank_shows_none = record {
       range = λ q h. absurd (h refl);
       one = λ q h. absurd (h refl);

@@ -1,4 +1,5 @@
 use Rattle.dt_cells.proofs.Serving.{blank_serves, shown_serves, serves_after, none_is_stray_after, rest_stays}
+use Rattle.dt_cells.proofs.BatchSteps.{one_image_after}
 use Rattle.dt_cells.proofs.laws.law_of_kinds.Goals as goal
 
 pub returns-clause-shown : goal.returns-clause-shown
@@ -15,3 +16,6 @@ returns-clause-rest g c = rest_stays c.law_of_cells.ensures.understood g.K.Table
 
 pub returns-clause-blank : goal.returns-clause-blank
 returns-clause-blank g c = blank_serves c.law_of_cells.ensures.understood g.K.TableKind.kind (g.met.K.TableKind g.world.𝓛 g.world.𝓜 g.world.𝓡 ((λ s x. x), (λ x. x), (λ x. x), λ x. x)).laws
+
+pub returns-clause-determined : goal.returns-clause-determined
+returns-clause-determined g c = one_image_after g.K.TableKind.kind (g.met.K.TableKind g.world.𝓛 g.world.𝓜 g.world.𝓡 ((λ s x. x), (λ x. x), (λ x. x), λ x. x)).laws
