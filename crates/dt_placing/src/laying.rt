@@ -58,7 +58,7 @@ pub(crate) fn take_row(
 }
 
 // Sets the word at the address, where it is another than before.
-fn set_other(draft: &mut Draft, tree: &Tree, at: u32, word: u64) -> Result<(), NoMemory>
+pub(crate) fn set_other(draft: &mut Draft, tree: &Tree, at: u32, word: u64) -> Result<(), NoMemory>
     requires { at < addresses }
     ensures { OnOk result ((address : ℕ) → laid_over draft.new (look_up tree.now) address
         ≡ (if address == at then word else laid_over draft.old (look_up tree.now) address)) }

@@ -10,6 +10,7 @@ mod row;
 mod selector_turn;
 mod selector_turns;
 mod staged;
+mod staying;
 
 pub use looking::look_part;
 pub use places::SelectorPlaces;
