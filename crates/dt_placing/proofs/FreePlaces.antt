@@ -1,5 +1,5 @@
 -- A free place among the places of the region always exists.
-use Rattle.std.proofs.Common.{◌≡◌, ℕ, ◌+◌, ◌-◌, ◌<◌, ◌≤◌, Bool, List, length, refl, sym, subst, ◌∙◌, arith}
+use Rattle.std.proofs.Common.{◌≡◌, ℕ, ◌+◌, ◌-◌, ◌<◌, ◌≤◌, Bool, List, length, sym, subst, arith}
 use Rattle.dt_fit.specs.declared.geometry.Geometry.{Geometry}
 use Rattle.dt_fit.specs.declared.geometry.Geometry.TheVariants.{Colours, Displacements}
 use Rattle.dt_fit.specs.Geometry.{place_limit}

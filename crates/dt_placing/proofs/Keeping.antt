@@ -1,18 +1,18 @@
 -- What a value keeps, before a stage, after it and after it is settled.
-use Rattle.std.proofs.Common.{◌≡◌, ◌≢◌, ◌==◌, ◌⊎◌, ℕ, ◌+◌, ◌<◌, ◌≤◌, Bool, true, false, ◌&&◌, not, if◌then◌else◌, List, get_or, inl, inr, refl, sym, ap, subst, ◌∙◌, arith, All}
-use Rattle.std.proofs.lemmas.Bool.{or_left, or_parts, true≢false}
+use Rattle.std.proofs.Common.{◌≡◌, ◌≢◌, ◌⊎◌, ℕ, ◌+◌, Bool, true, false, ◌&&◌, if◌then◌else◌, List, get_or, inl, inr, refl, sym, ap, ◌∙◌, arith}
+use Rattle.std.proofs.lemmas.Bool.{or_left, true≢false}
 use Rattle.dt_pages.specs.Reading.{Reading, blank}
 use Rattle.dt_scratch.specs.declared.reply.Change.{Change}
 use Rattle.dt_cells.specs.Regions.{place_of}
-use Rattle.dt_cells.specs.Held.{Held, none_held, held_after, IsStageable, is_changed, is_changed_place}
+use Rattle.dt_cells.specs.Held.{Held, none_held, held_after, is_changed, is_changed_place}
 use Rattle.dt_cells.specs.HeldLaws.{by_cases, if_true, if_false}
-use Rattle.dt_cells.specs.Kind.{Stay, sets}
+use Rattle.dt_cells.specs.Kind.{Stay}
 use Rattle.dt_cells.specs.Standing.{CanStage}
 use Rattle.dt_fit.specs.declared.geometry.Geometry.{Geometry}
 use Rattle.dt_fit.specs.Cells.{Cells, is_kept, is_tried}
 use Rattle.dt_placing.specs.declared.staged.StagedWord.{StagedWord}
 use Rattle.dt_placing.specs.Rows.{is_some, has_index}
-use Rattle.dt_placing.specs.Placing.{owns, words_after, word_kept, with_words, AreUsed, Kept, Stands, Follows, Places, placing}
+use Rattle.dt_placing.specs.Placing.{owns, words_after, with_words, AreUsed, Kept, Stands, Follows, Places, placing}
 use Rattle.dt_placing.specs.PlacingLaws.{unchanged_indexes, words_changed, words_unchanged, words_one, word_shown, marked, shown_after, placing_is_lawful}
 use Rattle.dt_placing.specs.PlacingStanding.{used_elsewhere}
 use Rattle.dt_placing.specs.Turn.{CanTakeTurns, AreWordsOf}

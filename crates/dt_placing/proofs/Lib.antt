@@ -1,8 +1,13 @@
 pub mod FreePlaces
+pub mod InPlace
 pub mod InRow
 pub mod Keeping
 pub mod Addresses
 pub mod Loops
+pub mod Anew
+pub mod OneSelector
+pub mod Others
+pub mod OwnCells
 pub mod Putting
 pub mod Turn
 pub mod Turns

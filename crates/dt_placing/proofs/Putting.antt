@@ -1,5 +1,5 @@
 -- Words that are put in place of others, one by one.
-use Rattle.std.proofs.Common.{◌≡◌, ℕ, zero, suc, ◌+◌, ◌<◌, ◌≤◌, List, [], ◌∷◌, length, get_or, set, drop, refl, sym, ap, ◌∙◌, arith}
+use Rattle.std.proofs.Common.{◌≡◌, ℕ, zero, suc, ◌+◌, ◌<◌, ◌≤◌, List, [], ◌∷◌, length, get_or, set, drop, refl, ap, ◌∙◌, arith}
 use Rattle.dt_placing.specs.declared.staged.StagedWord.{StagedWord}
 use Rattle.dt_placing.specs.Placing.{with_words}
 

@@ -1,33 +1,32 @@
 -- Turns that follow one another place the changes of a batch.
-use Rattle.std.proofs.Common.{◌≡◌, ◌≢◌, ◌==◌, ℕ, zero, suc, ◌+◌, ◌-◌, ◌<◌, ◌≤◌, Bool, true, false, ◌&&◌, ◌||◌, not, if◌then◌else◌, List, [], ◌∷◌, ◌++◌, length, get_or, set, take, drop, inl, inr, refl, sym, ap, subst, ◌∙◌, arith, append_assoc, All}
+use Rattle.std.proofs.Common.{◌≡◌, ◌≢◌, ◌==◌, ℕ, zero, suc, ◌+◌, ◌<◌, ◌≤◌, Bool, true, false, ◌&&◌, ◌||◌, List, [], ◌∷◌, ◌++◌, length, get_or, set, take, drop, inl, inr, refl, sym, ap, subst, ◌∙◌, arith, append_assoc, All}
 use Rattle.std.specs.Prelude.{nat_le, nat_lt}
-use Rattle.std.specs.List.{list_any, AllByRecursion}
+use Rattle.std.specs.List.{AllByRecursion}
 use Rattle.std.specs.List.Sorted.{IsStrictlySortedBy}
 use Rattle.std.specs.Ordering.{nat_cmp, ordering_then}
 use Rattle.std.specs.Cmp.{nat_cmp_is}
 use Rattle.std.specs.Cmp.Lexicographic.{slice_cmp}
 use Rattle.std.specs.declared.cmp.Ordering.{Ordering}
-use Rattle.std.specs.declared.cmp.Ordering.TheVariants.{Less, Equal, Greater}
+use Rattle.std.specs.declared.cmp.Ordering.TheVariants.{Less, Greater}
 use Rattle.std.proofs.lemmas.Map.Keys.{sorted_head, sorted_tail}
-use Rattle.std.proofs.lemmas.Bool.{or_left, or_right, or_parts, and_parts, eqb-true, eq-eqb, true≢false}
+use Rattle.std.proofs.lemmas.Bool.{or_left, or_right, or_parts, eqb-true, eq-eqb, true≢false}
 use Rattle.std.proofs.lemmas.List.{take-append-drop, length-set, get_or-set_same, get_or-set_other}
 use Rattle.std.proofs.lemmas.List.Elements.{All-nil, All-cons, All-head, All-tail, All-append}
 use Rattle.dt_pages.specs.Reading.{Reading}
-use Rattle.dt_scratch.specs.Query.{Query, query_order, arity_of_query}
+use Rattle.dt_scratch.specs.Query.{query_order, arity_of_query}
 use Rattle.dt_scratch.specs.declared.reply.Change.{Change}
 use Rattle.dt_cells.specs.Regions.{place_of}
-use Rattle.dt_cells.specs.Held.{Held, held_after, IsStageableChange, is_changed, is_changed_place}
+use Rattle.dt_cells.specs.Held.{Held, IsStageableChange, is_changed, is_changed_place}
 use Rattle.dt_cells.specs.HeldLaws.{by_cases, or_true, if_true, if_false, changed_place}
 use Rattle.dt_fit.specs.declared.geometry.Geometry.{Geometry}
 use Rattle.dt_fit.specs.Cells.{Cells, is_kept, is_tried}
 use Rattle.dt_placing.specs.declared.staged.StagedWord.{StagedWord}
-use Rattle.dt_placing.specs.Rows.{has_index}
 use Rattle.dt_placing.specs.RowsLaws.{All-parts, has_index_of}
-use Rattle.dt_placing.specs.Placing.{owns, Shows, words_after, word_kept, AreUsed, Places, with_words}
-use Rattle.dt_placing.specs.PlacingLaws.{le_test, le_tested, owned_cell, move_cells, words_changed, words_unchanged}
+use Rattle.dt_placing.specs.Placing.{owns, AreUsed, Places, with_words}
+use Rattle.dt_placing.specs.PlacingLaws.{le_test, le_tested, owned_cell, move_cells}
 use Rattle.dt_placing.specs.PlacingStanding.{used_elsewhere}
 use Rattle.dt_placing.specs.Turn.{CanTurn, CanTakeTurns, AreWordsOf, run_of}
-use Rattle.dt_placing.proofs.Turn.{changed_append, others_unchanged}
+use Rattle.dt_placing.proofs.OneSelector.{changed_append, others_unchanged}
 
 abbrev pub order : Change → Change → Ordering
 order a b = query_order a.query b.query

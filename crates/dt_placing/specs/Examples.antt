@@ -1,8 +1,6 @@
 -- Two batches, worked out: a selector that moves to another colour, and one that moves to another displacement.
-use Rattle.std.specs.Prelude.{◌≡◌, ◌≢◌, ℕ, ◌==◌, Bool, true, false, if◌then◌else◌, List, [], ◌∷◌, refl}
+use Rattle.std.specs.Prelude.{◌≡◌, ℕ, ◌==◌, true, false, if◌then◌else◌, List, [], ◌∷◌, refl}
 use Rattle.dt_pages.specs.Reading.{Reading}
-use Rattle.dt_scratch.specs.Query.{Query}
-use Rattle.dt_scratch.specs.declared.reply.Answer.{Answer}
 use Rattle.dt_scratch.specs.declared.reply.Answer.TheVariants.{Method, NotUnderstood}
 use Rattle.dt_scratch.specs.declared.reply.Reply.TheVariants.{Answered}
 use Rattle.dt_cells.specs.Cell.{cell_word}

@@ -1,6 +1,6 @@
 -- Placing: the cells of a selector are a row that has a place as a whole, the lowest at which they are free when the
 -- selector's turn comes. Places are colours or displacements.
-use Rattle.std.specs.Prelude.{◌≡◌, ◌≢◌, ℕ, zero, suc, ◌+◌, ◌-◌, ◌*◌, ◌^◌, ◌<◌, ◌≤◌, ◌&&◌, ◌==◌, not, get_or, set, Bool, true, false, nat_le, nat_lt, if◌then◌else◌, List, [], ◌∷◌}
+use Rattle.std.specs.Prelude.{◌≡◌, ◌≢◌, ℕ, zero, suc, ◌+◌, ◌-◌, ◌*◌, ◌^◌, ◌<◌, ◌&&◌, ◌==◌, not, get_or, set, Bool, true, false, nat_le, nat_lt, if◌then◌else◌, List, [], ◌∷◌}
 use Rattle.dt_pages.specs.Reading.{Reading, addresses}
 use Rattle.dt_scratch.specs.Query.{Query, arity_of_query}
 use Rattle.dt_scratch.specs.declared.reply.Answer.{Answer}

@@ -1,10 +1,10 @@
 -- Placing is a lawful kind.
-use Rattle.std.proofs.Common.{◌≡◌, ◌≢◌, ◌==◌, ℕ, zero, suc, ◌+◌, ◌-◌, ◌*◌, ◌/◌, ◌%◌, ◌<◌, ◌≤◌, Bool, true, false, ◌&&◌, ◌||◌, if◌then◌else◌, List, [], ◌∷◌, ◌⊎◌, inl, inr, refl, sym, ap, subst, ◌∙◌, arith, take, All, IsTrue}
+use Rattle.std.proofs.Common.{◌≡◌, ◌≢◌, ◌==◌, ℕ, zero, suc, ◌+◌, ◌-◌, ◌*◌, ◌/◌, ◌%◌, ◌<◌, ◌≤◌, Bool, true, false, ◌&&◌, if◌then◌else◌, List, [], ◌∷◌, ◌⊎◌, inl, inr, refl, sym, ap, subst, ◌∙◌, arith, take, All, IsTrue}
 use Rattle.std.specs.Prelude.{nat_le, nat_lt, length}
 use Rattle.std.proofs.lemmas.Bool.{or_left, or_right, and_from, eqb-true, eq-eqb, true≢false}
 use Rattle.std.proofs.lemmas.List.Elements.{All-nil, All-cons, All-head, All-tail}
 use Rattle.dt_pages.specs.Reading.{Reading}
-use Rattle.dt_scratch.specs.Query.{Query, arity_of_query}
+use Rattle.dt_scratch.specs.Query.{arity_of_query}
 use Rattle.dt_scratch.specs.declared.reply.Answer.{Answer}
 use Rattle.dt_scratch.specs.declared.reply.Answer.TheVariants.{Method, NotUnderstood, Ambiguous}
 use Rattle.dt_scratch.specs.declared.reply.Change.{Change}
@@ -12,14 +12,14 @@ use Rattle.dt_cells.specs.Regions.{place_of}
 use Rattle.dt_cells.specs.Cell.{cell_word, answer_of_code, answer_of_word}
 use Rattle.dt_cells.specs.Held.{Held, none_held, IsHeld, IsInRange, HasBodyInRange, held_after, IsStageable, IsStageableChange, is_changed, is_changed_place}
 use Rattle.dt_cells.specs.HeldLaws.{by_cases, or_true, if_true, if_false, after_keeps, body_after, unchanged_after, changed_place}
-use Rattle.dt_cells.specs.Kind.{IsLawful, SameFor, Stay, IsMarked, sets}
+use Rattle.dt_cells.specs.Kind.{IsLawful, SameFor, Stay, IsMarked}
 use Rattle.dt_fit.specs.declared.geometry.Geometry.{Geometry}
 use Rattle.dt_fit.specs.declared.geometry.Geometry.TheVariants.{Colours, Displacements}
 use Rattle.dt_fit.specs.Geometry.{width_of}
 use Rattle.dt_fit.specs.Fits.{fits, IsLowest}
-use Rattle.dt_fit.specs.Rows.{PlacedRow, row_uses}
-use Rattle.dt_placing.specs.Rows.{single, is_understood, indexes, indexes_below, is_some, has_index, others_below}
-use Rattle.dt_placing.specs.RowsLaws.{understood, not_understood, same_indexes, no_indexes, has_index_of, index_of, same_others}
+use Rattle.dt_fit.specs.Rows.{row_uses}
+use Rattle.dt_placing.specs.Rows.{single, is_understood, indexes, is_some, has_index}
+use Rattle.dt_placing.specs.RowsLaws.{not_understood, same_indexes, has_index_of, index_of, same_others}
 use Rattle.dt_placing.specs.Placing.{cell_at, owns, tag_of, answer_at, part_by, way_by, AreCells, place_numbers, HasRoom, Shows, words_after, row_at, is_used, may_stay, HasWord, IsPlaced, Places, placing}
 
 -- ---- tests

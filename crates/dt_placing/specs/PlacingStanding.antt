@@ -1,10 +1,10 @@
 -- What it is for a value to stand for a reading, for every kind that places selectors as a whole.
-use Rattle.std.proofs.Common.{◌≡◌, ◌≢◌, ◌==◌, ℕ, ◌+◌, ◌<◌, Bool, true, false, not, refl, sym, ap, ◌∙◌, arith, get_or, if◌then◌else◌}
+use Rattle.std.proofs.Common.{◌≡◌, ◌≢◌, ◌==◌, ℕ, ◌+◌, ◌<◌, Bool, true, false, not, sym, ap, ◌∙◌, arith, get_or}
 use Rattle.std.specs.Prelude.{nat_lt, ◌&&◌}
 use Rattle.std.proofs.lemmas.Bool.{true≢false, eq-eqb, eqb-true, and_parts, and_from, not_from_false}
 use Rattle.dt_pages.specs.Reading.{Reading}
-use Rattle.dt_cells.specs.Regions.{place_of, single_cells}
-use Rattle.dt_cells.specs.Held.{Held, IsHeld}
+use Rattle.dt_cells.specs.Regions.{place_of}
+use Rattle.dt_cells.specs.Held.{Held}
 use Rattle.dt_cells.specs.HeldLaws.{by_cases, if_true, if_false}
 use Rattle.dt_cells.specs.Kind.{SameFor}
 use Rattle.dt_cells.specs.Standing.{IsStanding}
@@ -12,7 +12,7 @@ use Rattle.dt_fit.specs.declared.geometry.Geometry.{Geometry}
 use Rattle.dt_fit.specs.Cells.{is_kept}
 use Rattle.dt_placing.specs.Rows.{single, has_index}
 use Rattle.dt_placing.specs.RowsLaws.{index_of}
-use Rattle.dt_placing.specs.Placing.{owns, word_kept, AreUsed, Kept, Stands, has_place, placing}
+use Rattle.dt_placing.specs.Placing.{owns, AreUsed, Kept, Stands, has_place, placing}
 use Rattle.dt_placing.specs.PlacingLaws.{placing_is_lawful, lt_test, lt_tested}
 
 module _ (g : Geometry) where

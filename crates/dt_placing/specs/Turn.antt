@@ -77,6 +77,13 @@ pub record Turned (geometry : Geometry) (x : Reading) (selector before word : �
   pub anew : IsLaidAnew geometry x selector before word row d now
   pub takes : Laid (number_at geometry word) (is_in_row row) (λ class. true) class_numbers freed taken
 
+-- a turn is over: the changes up to it are placed, its word stands in the selector's place word, and no further word is set
+pub record IsOver (geometry : Geometry) (x : Reading) (own : List Change) (selector before word : ℕ) (d now : Reading) (used after : ℕ → Bool) : Type 0 where
+  pub placed : (held : Held) (done : List Change) → CanTurn geometry used x held done own selector before d
+      → Places geometry x held (done ++ own) now × AreUsed after now
+  pub word_is : word ≡ now (place_of selector)
+  pub rest : (address : ℕ) → owns address ≡ false → address ≢ place_of selector → now address ≡ d address
+
 -- the cells that aren't the selector's own are those of fewer rows than there are selectors
 pub record HasOthers (geometry : Geometry) (x : Reading) (selector before : ℕ) (used : ℕ → Bool) : Type 0 where
   pub rows : List PlacedRow

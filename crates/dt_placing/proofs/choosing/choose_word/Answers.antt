@@ -1,6 +1,5 @@
-use Rattle.std.proofs.Common.{ℕ, List, ◌<◌, All, sym, subst, ◌∙◌, arith}
+use Rattle.std.proofs.Common.{◌<◌, All, sym, subst, ◌∙◌, arith}
 use Rattle.dt_fit.specs.Cells.{is_tried}
-use Rattle.dt_fit.specs.Rows.{AreIndexes}
 use Rattle.dt_placing.proofs.InRow.{used_are_indexes}
 use Rattle.dt_placing.proofs.choosing.choose_word.Goals as goal
 

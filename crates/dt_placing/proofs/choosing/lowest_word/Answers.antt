@@ -1,4 +1,4 @@
-use Rattle.std.proofs.Common.{refl, sym, subst, ℕ, Bool, List, ◌≡◌, ◌+◌}
+use Rattle.std.proofs.Common.{refl, sym, subst}
 use Rattle.dt_fit.specs.declared.geometry.Geometry.{Geometry}
 use Rattle.dt_fit.specs.Geometry.{place_limit}
 use Rattle.dt_fit.specs.Fits.{fits, IsLowest, SomePlace}

@@ -1,7 +1,6 @@
-use Rattle.std.proofs.Common.{◌≡◌, ℕ, false}
+use Rattle.std.proofs.Common.{false}
 use Rattle.dt_pages.specs.Image.{look_up}
-use Rattle.dt_fit.specs.Cells.{is_kept, is_tried}
-use Rattle.dt_placing.specs.Turn.{Laid, number_at, is_own}
+use Rattle.dt_placing.specs.Turn.{number_at, is_own}
 use Rattle.dt_placing.proofs.Loops.{CellsSoFar}
 use Rattle.dt_placing.proofs.laying.free_row.Given as goal
 

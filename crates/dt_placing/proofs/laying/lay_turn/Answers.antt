@@ -1,4 +1,4 @@
-use Rattle.std.proofs.Common.{◌≡◌, ◌==◌, ℕ, ◌+◌, if◌then◌else◌, sym, ap, ◌∙◌}
+use Rattle.std.proofs.Common.{◌==◌, ◌+◌, if◌then◌else◌, ap, ◌∙◌}
 use Rattle.dt_pages.specs.Image.{look_up}
 use Rattle.dt_pages.specs.Draft.{laid_over}
 use Rattle.dt_placing.proofs.laying.lay_turn.Goals as goal

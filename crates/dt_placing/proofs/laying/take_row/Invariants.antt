@@ -1,4 +1,4 @@
-use Rattle.std.proofs.Common.{◌≡◌, ℕ, true}
+use Rattle.std.proofs.Common.{true}
 use Rattle.dt_placing.specs.Turn.{number_at, is_in_row}
 use Rattle.dt_placing.proofs.Loops.{CellsSoFar}
 use Rattle.dt_placing.proofs.laying.take_row.Given as goal

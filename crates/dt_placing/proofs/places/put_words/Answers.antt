@@ -1,4 +1,4 @@
-use Rattle.std.proofs.Common.{◌≡◌, ◌+◌, List, ℕ, drop, length, get_or, refl, sym, ap, ◌∙◌, arith}
+use Rattle.std.proofs.Common.{◌+◌, List, ℕ, drop, get_or, refl, sym, ap, ◌∙◌, arith}
 use Rattle.dt_placing.specs.declared.staged.StagedWord.{StagedWord}
 use Rattle.dt_placing.specs.Placing.{with_words}
 use Rattle.dt_placing.proofs.Putting.{put_step, put_all}

@@ -1,9 +1,8 @@
-use Rattle.std.proofs.Common.{◌≡◌, ◌<◌, ℕ, List, [], length, get_or, take, drop, refl, sym, ap, subst, ◌∙◌, arith, rules}
+use Rattle.std.proofs.Common.{◌<◌, List, length, get_or, take, drop, refl, sym, ap, subst, ◌∙◌, rules}
 use Rattle.dt_pages.specs.Image.{look_up}
 use Rattle.dt_pages.specs.Draft.{laid_over}
 use Rattle.dt_scratch.specs.declared.reply.Change.{Change}
 use Rattle.dt_placing.specs.declared.staged.StagedWord.{StagedWord}
-use Rattle.dt_placing.specs.Turn.{run_of}
 use Rattle.dt_placing.proofs.Turns.{TurnsSoFar, none_done, can_turn_at, next_turn_at}
 use Rattle.dt_placing.proofs.selector_turns.take_turns.Goals as goal
 
@@ -43,4 +42,4 @@ loop-rest-preserved c =
     (c.split_at.ensures.front ∙ ap (λ n. take n c.loop-rest.rest.now) c.run-count.ensures.value)
     (c.split_at.ensures.back ∙ ap (λ n. drop n c.loop-rest.rest.now) c.run-count.ensures.value)
     (c.selector-selector.ensures ∙ ap (λ (f : Change). f.query.selector) (sym c.index-rest-0.is)) (ap (λ k. get_or c.args.words.now k 0) c.from.ensures)
-    refl c.in_ok-word.ensures.geometry c.in_ok-word.ensures.kept (λ held done can. c.in_ok-word.ensures.placed held done can) c.in_ok-word.ensures.word c.in_ok-word.ensures.rest)
+    refl c.in_ok-word.ensures.geometry c.in_ok-word.ensures.kept c.in_ok-word.ensures.over.placed c.in_ok-word.ensures.over.word_is c.in_ok-word.ensures.over.rest)

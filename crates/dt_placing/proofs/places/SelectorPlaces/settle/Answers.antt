@@ -1,4 +1,4 @@
-use Rattle.std.proofs.Common.{◌≡◌, ℕ, List, refl, sym, subst, ◌∙◌, rules}
+use Rattle.std.proofs.Common.{◌≡◌, ℕ, List, sym, subst, rules}
 use Rattle.dt_cells.specs.Held.{held_after}
 use Rattle.dt_fit.specs.Cells.{Cells}
 use Rattle.dt_placing.specs.Placing.{Kept, Stands, Follows, with_words}

@@ -1,4 +1,4 @@
-use Rattle.std.proofs.Common.{◌≡◌, ℕ, List, refl, sym, subst, ◌∙◌, rules}
+use Rattle.std.proofs.Common.{◌≡◌, ℕ, List, sym, subst, rules}
 use Rattle.dt_pages.specs.Image.{look_up}
 use Rattle.dt_pages.specs.Draft.{laid_over}
 use Rattle.dt_cells.specs.Standing.{CanStage}
