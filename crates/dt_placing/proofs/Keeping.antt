@@ -29,15 +29,6 @@ module _ (g : Geometry) where
     ascending = can.stageable.ascending;
   }
 
-  pub still_stands : (kept : Kept) (cells : Cells) (x : Reading) (held : Held) → cells.geometry ≡ kept.cells.geometry
-      → ((cell : ℕ) → is_kept cells cell ≡ is_kept kept.cells cell) → Stands g kept x held → Stands g (record { words = kept.words; cells = cells }) x held
-  still_stands kept cells x held geometry same st = record {
-    shows = st.shows;
-    geometry_is = geometry ∙ st.geometry_is;
-    words = st.words;
-    cells = λ cell. same cell ∙ st.cells cell;
-  }
-
   pub staged_follows : (kept : Kept) (cells : Cells) (staged : List StagedWord) (x d now : Reading) (held : Held) (changes : List Change)
       → CanStage (placing g) (Stands g kept) 1 x d held changes → Places g x held changes now → AreUsed (is_tried cells) now → AreWordsOf kept.words changes now staged
       → Follows g (record { words = kept.words; cells = cells }) staged x held changes

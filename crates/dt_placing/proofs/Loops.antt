@@ -11,9 +11,6 @@ pub record CellsSoFar (geometry : Geometry) (first now : Cells) (at : ℕ → �
   pub kept : (cell : ℕ) → is_kept now cell ≡ is_kept first cell
   pub tried : Laid at passes (λ class. value) bound (is_tried first) (is_tried now)
 
-pub laid_none : {T : Type 0} (at : ℕ → ℕ) (passes : ℕ → Bool) (value before : ℕ → T) → Laid at passes value 0 before before
-laid_none at passes value before place = inr ((λ class below. absurd (omega (arith, below))), refl)
-
 -- a class that passes is laid
 pub laid_one : {T : Type 0} (at : ℕ → ℕ) (passes : ℕ → Bool) (value : ℕ → T) (n : ℕ) (before now after : ℕ → T) → passes n ≡ true
     → ((place : ℕ) → after place ≡ (if place == at n then value n else now place)) → Laid at passes value n before now → Laid at passes value (n + 1) before after

@@ -307,27 +307,3 @@ module _ (g : Geometry) where
       → Places g x held (done ++ take (run_of k (c ∷ cs)) (c ∷ cs)) next × AreUsed (is_tried later) next) e one)
       (p_word ∙ ap (λ k. next (place_of k)) e)
       (subst (λ k. (address : ℕ) → owns address ≡ false → address ≢ place_of k → next address ≡ d address) e others))
-
--- ---- a run, one by one
-
-pub run_next : (s : ℕ) (cs : List Change) (n : ℕ) (d : Change) → n < length cs → (get_or cs n d).query.selector ≡ s
-    → n + 1 + run_of s (drop (n + 1) cs) ≡ n + run_of s (drop n cs)
-run_next s [] n d within is = absurd (omega arith)
-run_next s (c ∷ cs) zero d within is =
-    let e : run_of s (c ∷ cs) ≡ suc (run_of s cs) = if_true (c.query.selector == s) (suc (run_of s cs)) 0 (eq-eqb c.query.selector s is) in omega (arith, e)
-run_next s (c ∷ cs) (suc n) d within is =
-    let e : suc n + 1 ≡ suc (n + 1) = omega arith in
-    let same : run_of s (drop (suc n + 1) (c ∷ cs)) ≡ run_of s (drop (n + 1) cs) = ap (λ k. run_of s (drop k (c ∷ cs))) e in
-    omega (arith, same, run_next s cs n d (omega arith) is)
-
-pub run_ends : (s : ℕ) (cs : List Change) (n : ℕ) (d : Change) → n < length cs → (get_or cs n d).query.selector ≢ s → run_of s (drop n cs) ≡ 0
-run_ends s [] n d within apart = absurd (omega arith)
-run_ends s (c ∷ cs) zero d within apart = if_false (c.query.selector == s) (suc (run_of s cs)) 0
-    (by_cases (c.query.selector == s) (λ t. absurd (apart (eqb-true c.query.selector s t))) (λ f. f))
-run_ends s (c ∷ cs) (suc n) d within apart = run_ends s cs n d (omega arith) apart
-
-pub run_over : (s : ℕ) (cs : List Change) (n : ℕ) → length cs ≤ n → run_of s (drop n cs) ≡ 0
-run_over s [] zero all = refl
-run_over s [] (suc n) all = refl
-run_over s (c ∷ cs) zero all = absurd (omega arith)
-run_over s (c ∷ cs) (suc n) all = run_over s cs n (omega arith)
