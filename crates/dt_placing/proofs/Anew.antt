@@ -7,7 +7,7 @@ use Rattle.dt_scratch.specs.declared.reply.Change.{Change}
 use Rattle.dt_cells.specs.Regions.{place_of}
 use Rattle.dt_cells.specs.Cell.{cell_word}
 use Rattle.dt_cells.specs.Held.{Held, IsHeld, held_after}
-use Rattle.dt_cells.specs.HeldLaws.{by_cases, if_true, if_false}
+use Rattle.dt_cells.specs.HeldLaws.{by_cases, if_true}
 use Rattle.dt_fit.specs.declared.geometry.Geometry.{Geometry}
 use Rattle.dt_fit.specs.Geometry.{width_of}
 use Rattle.dt_fit.specs.Fits.{fits}
@@ -19,7 +19,7 @@ use Rattle.dt_placing.proofs.InRow.{used_are}
 use Rattle.dt_placing.specs.Turn.{own_word, used_in_row, number_at, is_own, is_in_row, is_cleared, CanTurn, Turned}
 use Rattle.dt_placing.proofs.OwnCells.{own_is}
 use Rattle.dt_placing.proofs.Others.{now_words, before, OwnCell, OthersCell, own_held, held_own, owner, not_both, other_uses, freed_is, chosen_is, number_is}
-use Rattle.dt_placing.proofs.Turn.{next_held, own_after, IsLaid, placed_next, Done}
+use Rattle.dt_placing.proofs.Turn.{next_held, own_after, place_set, elsewhere, in_cells, IsLaid, placed_next, Done}
 
 module _ {g : Geometry} {tried : ℕ → Bool} {x : Reading} {held : Held} {done own : List Change} {s given : ℕ} {d : Reading}
     (can : CanTurn g tried x held done own s given d) where
@@ -45,19 +45,13 @@ module _ {g : Geometry} {tried : ℕ → Bool} {x : Reading} {held : Held} {done
         subst (HasRoom g) (sym (if_true (has_index held s) (x (place_of s)) 0 some)) (can.shows.room s some)
 
     -- ---- words
-    word_is : now (place_of s) ≡ word
-    word_is = turned.anew.places (place_of s) ∙ if_true (place_of s == place_of s) word (turned.anew.laid (place_of s)) (eq-eqb (place_of s) (place_of s) refl)
 
-    elsewhere : (address : ℕ) → address ≢ place_of s → now address ≡ turned.anew.laid address
-    elsewhere address apart = turned.anew.places address ∙ if_false (address == place_of s) word (turned.anew.laid address)
-        (by_cases (address == place_of s) (λ t. absurd (apart (eqb-true address (place_of s) t))) (λ f. f))
-
-    in_cells : (address : ℕ) → 16777216 ≤ address → now address ≡ turned.anew.laid address
-    in_cells address from = elsewhere address (λ e. (let small : s < 4096 = can.range in let is : address ≡ 8192 + s = e in omega (arith, from, small, is)))
+    cells_laid : (address : ℕ) → 16777216 ≤ address → now address ≡ turned.anew.laid address
+    cells_laid = in_cells can word now turned.anew.laid turned.anew.places
 
     -- every other word stays
     rest : (address : ℕ) → owns address ≡ false → address ≢ place_of s → now address ≡ d address
-    rest address out apart = elsewhere address apart ∙ elim (turned.anew.lays address) [
+    rest address out apart = elsewhere can word now turned.anew.laid turned.anew.places address apart ∙ elim (turned.anew.lays address) [
       | inl m ↦ absurd (true≢false (sym (ap owns (sym m.3) ∙ owned_cell g word m.0 (row_room m.0 m.1 m.2) m.1) ∙ out))
       | inr m ↦ m.1 ∙ elim (turned.anew.clears address) [
         | inl k ↦ absurd (let own : is_own g x s (before can) k.0 ≡ true = (and_parts (is_own g x s (before can) k.0) (not (word == (before can)) || get_or row k.0 0 == 0) k.2).0 in
@@ -106,7 +100,7 @@ module _ {g : Geometry} {tried : ℕ → Bool} {x : Reading} {held : Held} {done
     own_cell address c below e at = record { class = c; below = below; holds = own_held can c below e; at = at }
 
     row_set : (c : ℕ) → c < 2048 → IsHeld (next_held can) (single s c) → now (cell_at g (word - 1) c) ≡ cell_word (tag_of s) (next_held can (single s c))
-    row_set c below h = in_cells (cell_at g (word - 1) c) (omega arith) ∙ elim (turned.anew.lays (cell_at g (word - 1) c)) [
+    row_set c below h = cells_laid (cell_at g (word - 1) c) (omega arith) ∙ elim (turned.anew.lays (cell_at g (word - 1) c)) [
       | inl m ↦ (let at : 16777216 + (width_of g * (word - 1) + m.0) ≡ 16777216 + (width_of g * (word - 1) + c) = m.3 in
           let one : m.0 ≡ c = omega (arith, at) in m.4 ∙ ap (λ k. get_or row k 0) one ∙ rows c below)
       | inr m ↦ absurd (m.0 c below (in_row c below h) refl)
@@ -115,7 +109,7 @@ module _ {g : Geometry} {tried : ℕ → Bool} {x : Reading} {held : Held} {done
     others_stay : (address : ℕ) → OthersCell can address → now address ≡ d address
     others_stay address u =
         let at : 16777216 + (width_of g * (now_words can u.selector - 1) + u.class) ≡ address = u.at in
-        in_cells address (omega (arith, at)) ∙ elim (turned.anew.lays address) [
+        cells_laid address (omega (arith, at)) ∙ elim (turned.anew.lays address) [
           | inl m ↦ absurd (true≢false (sym (other_uses can (number_at g word m.0) (subst (OthersCell can) (sym m.3) u)) ∙ free_at m.0 m.1 (row_in m.0 m.1 m.2)))
           | inr m ↦ m.1 ∙ elim (turned.anew.clears address) [
             | inl k ↦ absurd (not_both can address (own_cell address k.0 k.1
@@ -129,8 +123,8 @@ module _ {g : Geometry} {tried : ℕ → Bool} {x : Reading} {held : Held} {done
     row_used address own_one some = elim (turned.anew.lays address) [
       | inl m ↦ inl (m.0, m.1, row_in m.0 m.1 m.2, m.3)
       | inr m ↦ elim (turned.anew.clears address) [
-        | inl k ↦ absurd (some (in_cells address (owned g address own_one).0 ∙ m.1 ∙ k.4))
-        | inr k ↦ elim (owner can address own_one (λ z. some (in_cells address (owned g address own_one).0 ∙ m.1 ∙ k.1 ∙ z))) [
+        | inl k ↦ absurd (some (cells_laid address (owned g address own_one).0 ∙ m.1 ∙ k.4))
+        | inr k ↦ elim (owner can address own_one (λ z. some (cells_laid address (owned g address own_one).0 ∙ m.1 ∙ k.1 ∙ z))) [
           | inl o ↦ absurd (let stays = not_cleared o.class (held_own can o.class o.below o.holds) (λ e. k.0 o.class o.below e o.at) in
               m.0 o.class o.below stays.1 (ap (λ w. cell_at g (w - 1) o.class) stays.0 ∙ o.at))
           | inr u ↦ inr u
@@ -139,7 +133,7 @@ module _ {g : Geometry} {tried : ℕ → Bool} {x : Reading} {held : Held} {done
     ]
 
     laid_anew : IsLaid can word now
-    laid_anew = record { word_is = word_is; rest = rest; row = row_set; others = others_stay; used = row_used }
+    laid_anew = record { word_is = place_set can word now turned.anew.laid turned.anew.places; rest = rest; row = row_set; others = others_stay; used = row_used }
 
     -- ---- used cells
 
@@ -159,7 +153,7 @@ module _ {g : Geometry} {tried : ℕ → Bool} {x : Reading} {held : Held} {done
 
         laid_some : (c : ℕ) → c < 2048 → is_in_row row c ≡ true → number_at g word c ≡ cell → now (16777216 + cell) ≡ 0 → ⊥
         laid_some c below e at zero_word = elim (turned.anew.lays (16777216 + cell)) [
-          | inl n ↦ true≢false (sym (eq-eqb (get_or row n.0 0) 0 (sym n.4 ∙ sym (in_cells (16777216 + cell) (omega arith)) ∙ zero_word)) ∙ not-true (get_or row n.0 0 == 0) n.2)
+          | inl n ↦ true≢false (sym (eq-eqb (get_or row n.0 0) 0 (sym n.4 ∙ sym (cells_laid (16777216 + cell) (omega arith)) ∙ zero_word)) ∙ not-true (get_or row n.0 0 == 0) n.2)
           | inr n ↦ n.0 c below e (ap (λ k. 16777216 + k) at)
         ]
 
@@ -172,7 +166,7 @@ module _ {g : Geometry} {tried : ℕ → Bool} {x : Reading} {held : Held} {done
 
         cleared_none : ((class : ℕ) → class < 2048 → is_in_row row class ≡ true → number_at g word class ≢ cell)
             → (c : ℕ) → c < 2048 → is_own g x s (before can) c ≡ true → number_at g (before can) c ≡ cell → now (16777216 + cell) ≡ 0
-        cleared_none no_row c below own at = in_cells (16777216 + cell) (omega arith) ∙ elim (turned.anew.lays (16777216 + cell)) [
+        cleared_none no_row c below own at = cells_laid (16777216 + cell) (omega arith) ∙ elim (turned.anew.lays (16777216 + cell)) [
           | inl n ↦ absurd (no_row n.0 n.1 n.2 (there word n.0 n.3))
           | inr n ↦ n.1 ∙ elim (turned.anew.clears (16777216 + cell)) [
             | inl k ↦ k.4
@@ -183,7 +177,7 @@ module _ {g : Geometry} {tried : ℕ → Bool} {x : Reading} {held : Held} {done
 
         untouched : ((class : ℕ) → class < 2048 → is_in_row row class ≡ true → number_at g word class ≢ cell)
             → ((class : ℕ) → class < 2048 → is_own g x s (before can) class ≡ true → number_at g (before can) class ≢ cell) → now (16777216 + cell) ≡ d (16777216 + cell)
-        untouched no_row no_own = in_cells (16777216 + cell) (omega arith) ∙ elim (turned.anew.lays (16777216 + cell)) [
+        untouched no_row no_own = cells_laid (16777216 + cell) (omega arith) ∙ elim (turned.anew.lays (16777216 + cell)) [
           | inl n ↦ absurd (no_row n.0 n.1 n.2 (there word n.0 n.3))
           | inr n ↦ n.1 ∙ elim (turned.anew.clears (16777216 + cell)) [
             | inl k ↦ absurd (no_own k.0 k.1 (and_parts (is_own g x s (before can) k.0) (not (word == (before can)) || get_or row k.0 0 == 0) k.2).0 (there (before can) k.0 k.3))
@@ -211,9 +205,10 @@ module _ {g : Geometry} {tried : ℕ → Bool} {x : Reading} {held : Held} {done
       = subst (λ (l : List ℕ). HasWord g (before can) (is_used g x held done (now_words can) s) l (is_some l) (not (before can == 0) && fits g (is_used g x held done (now_words can) s) l (before can - 1)) word) are two in
       let chosen = chosen_is can (is_used g x held done (now_words can) s) (indexes (next_held can) s) (has_index (next_held can) s) word three in
       let has_room : has_index (next_held can) s ≡ true → HasRoom g word = (λ some. room (ap is_some are ∙ some)) in
+      let laid = laid_anew word row now freed taken at_before rows chosen has_room in
       record {
-        places = placed_next can word now (laid_anew word row now freed taken at_before rows chosen has_room) chosen has_room;
+        places = placed_next can word now laid chosen has_room;
         used = used_after word row now freed taken at_before rows chosen has_room;
-        rest = rest word row now freed taken at_before rows chosen has_room;
-        word_is = word_is word row now freed taken at_before rows chosen has_room;
+        rest = laid.rest;
+        word_is = laid.word_is;
       }

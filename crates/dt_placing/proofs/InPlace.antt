@@ -20,7 +20,7 @@ use Rattle.dt_placing.specs.PlacingLaws.{some_word, owned, owned_cell}
 use Rattle.dt_placing.specs.Turn.{number_at, is_own, CanTurn}
 use Rattle.dt_placing.specs.Staying.{class_of, is_open, laid_by, HasCell, IsChangedInPlace}
 use Rattle.dt_placing.proofs.Others.{now_words, before, OthersCell, same_held, own_held, held_own, kept_word, owner, not_both, others_used, used_by_other}
-use Rattle.dt_placing.proofs.Turn.{next_held, own_after, IsLaid, placed_next, Done}
+use Rattle.dt_placing.proofs.Turn.{next_held, own_after, place_set, elsewhere, in_cells, IsLaid, placed_next, Done}
 
 -- ---- the class of a change
 
@@ -177,12 +177,11 @@ module _ {g : Geometry} {tried : ℕ → Bool} {x : Reading} {held : Held} {done
     room : HasRoom g (before can)
     room = subst (HasRoom g) (sym before_is) (can.shows.room s placed)
 
-    elsewhere : (address : ℕ) → address ≢ place_of s → now address ≡ words address
-    elsewhere address apart = made.places address ∙ if_false (address == place_of s) word (made.laid address)
-        (by_cases (address == place_of s) (λ t. absurd (apart (eqb-true address (place_of s) t))) (λ f. f)) ∙ made.words address
+    elsewhere_by : (address : ℕ) → address ≢ place_of s → now address ≡ words address
+    elsewhere_by address apart = elsewhere can word now made.laid made.places address apart ∙ made.words address
 
-    in_cells : (address : ℕ) → 16777216 ≤ address → now address ≡ words address
-    in_cells address from = elsewhere address (λ e. (let small : s < 4096 = can.range in let is : address ≡ 8192 + s = e in omega (arith, from, small, is)))
+    cells_by : (address : ℕ) → 16777216 ≤ address → now address ≡ words address
+    cells_by address from = in_cells can word now made.laid made.places address from ∙ made.words address
 
     -- ---- cells
 
@@ -205,7 +204,7 @@ module _ {g : Geometry} {tried : ℕ → Bool} {x : Reading} {held : Held} {done
         ∙ can.places.cells.set s class below (λ none. h (sym (same_held can class) ∙ none)) ∙ ap (cell_word (tag_of s)) (same_held can class)
 
     row_set : (class : ℕ) → class < 2048 → IsHeld (next_held can) (single s class) → now (cell_at g (before can - 1) class) ≡ cell_word (tag_of s) (next_held can (single s class))
-    row_set class below h = in_cells (cell_at g (before can - 1) class) (omega arith) ∙ elim (set_or_unset (cell_at g (before can - 1) class)) [
+    row_set class below h = cells_by (cell_at g (before can - 1) class) (omega arith) ∙ elim (set_or_unset (cell_at g (before can - 1) class)) [
       | inl m ↦ (let at : 16777216 + (width_of g * (before can - 1) + m.class) ≡ 16777216 + (width_of g * (before can - 1) + class) = m.at in
           let one : m.class ≡ class = omega (arith, at) in
           m.word ∙ ap (λ k. cell_word (tag_of s) (held_after held own (single s k))) one ∙ ap (cell_word (tag_of s)) (sym (own_after can class)))
@@ -216,7 +215,7 @@ module _ {g : Geometry} {tried : ℕ → Bool} {x : Reading} {held : Held} {done
     others_stay : (address : ℕ) → OthersCell can address → now address ≡ d address
     others_stay address u =
         let at : 16777216 + (width_of g * (now_words can u.selector - 1) + u.class) ≡ address = u.at in
-        in_cells address (omega (arith, at)) ∙ elim (set_or_unset address) [
+        cells_by address (omega (arith, at)) ∙ elim (set_or_unset address) [
           | inl m ↦ absurd (set_apart address m u)
           | inr m ↦ m.word
         ]
@@ -227,10 +226,10 @@ module _ {g : Geometry} {tried : ℕ → Bool} {x : Reading} {held : Held} {done
       | inl m ↦ inl (
         m.class,
         m.below,
-        (λ none. filled (in_cells address (owned g address own_one).0 ∙ m.word ∙ ap (cell_word (tag_of s)) (sym (own_after can m.class) ∙ none))),
+        (λ none. filled (cells_by address (owned g address own_one).0 ∙ m.word ∙ ap (cell_word (tag_of s)) (sym (own_after can m.class) ∙ none))),
         m.at,
       )
-      | inr m ↦ elim (owner can address own_one (λ z. filled (in_cells address (owned g address own_one).0 ∙ m.word ∙ z))) [
+      | inr m ↦ elim (owner can address own_one (λ z. filled (cells_by address (owned g address own_one).0 ∙ m.word ∙ z))) [
         | inl o ↦ inl (o.class, o.below, (λ none. o.holds (sym (holds_before address o.class m o.at) ∙ none)), o.at)
         | inr u ↦ inr u
       ]
@@ -238,7 +237,7 @@ module _ {g : Geometry} {tried : ℕ → Bool} {x : Reading} {held : Held} {done
 
     after_used : AreUsed after now
     after_used cell = made.cells cell ∙ used_by_changes g x s (before can) tried held d own can.each room can.used cell
-        ∙ ap (λ w. owns (16777216 + cell) && not (w == 0)) (sym (in_cells (16777216 + cell) (omega arith)))
+        ∙ ap (λ w. owns (16777216 + cell) && not (w == 0)) (sym (cells_by (16777216 + cell) (omega arith)))
 
     -- ---- whether a cell is left
 
@@ -281,8 +280,8 @@ module _ {g : Geometry} {tried : ℕ → Bool} {x : Reading} {held : Held} {done
 
     in_place : IsLaid can word now
     in_place = record {
-      word_is = made.places (place_of s) ∙ if_true (place_of s == place_of s) word (made.laid (place_of s)) (eq-eqb (place_of s) (place_of s) refl);
-      rest = λ address out apart. elsewhere address apart ∙ elim (set_or_unset address) [
+      word_is = place_set can word now made.laid made.places;
+      rest = λ address out apart. elsewhere_by address apart ∙ elim (set_or_unset address) [
         | inl m ↦ absurd (true≢false (sym (ap owns (sym m.at) ∙ owned_cell g (before can) m.class room m.below) ∙ out))
         | inr m ↦ m.word
       ];

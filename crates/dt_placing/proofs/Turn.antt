@@ -7,7 +7,7 @@ use Rattle.dt_scratch.specs.declared.reply.Change.{Change}
 use Rattle.dt_cells.specs.Regions.{place_of}
 use Rattle.dt_cells.specs.Cell.{cell_word}
 use Rattle.dt_cells.specs.Held.{Held, IsHeld, held_after, is_changed}
-use Rattle.dt_cells.specs.HeldLaws.{by_cases}
+use Rattle.dt_cells.specs.HeldLaws.{by_cases, if_true, if_false}
 use Rattle.dt_fit.specs.declared.geometry.Geometry.{Geometry}
 use Rattle.dt_fit.specs.Fits.{fits}
 use Rattle.dt_fit.specs.Rows.{row_uses}
@@ -38,7 +38,7 @@ module _ {g : Geometry} {tried : ℕ → Bool} {x : Reading} {held : Held} {done
       or_none true = refl
       or_none false = refl
 
-  pub other_held : (t c : ℕ) → t ≢ s → next_held (single t c) ≡ (now_held can) (single t c)
+  pub other_held : (t c : ℕ) → t ≢ s → next_held (single t c) ≡ now_held can (single t c)
   other_held t c apart = after_others held done own (single t c) (others_unchanged own s t can.own_each apart)
 
   pub other_indexes : (t : ℕ) → t ≢ s → indexes next_held t ≡ indexes (now_held can) t
@@ -46,6 +46,18 @@ module _ {g : Geometry} {tried : ℕ → Bool} {x : Reading} {held : Held} {done
 
   pub own_after : (c : ℕ) → next_held (single s c) ≡ held_after held own (single s c)
   own_after c = after_own held done own (single s c) (not_done can)
+
+  -- where the place word is set last, it is the turn's, and every other word is as it was laid
+  module _ (word : ℕ) (now laid : Reading) (places : (address : ℕ) → now address ≡ (if address == place_of s then word else laid address)) where
+    pub place_set : now (place_of s) ≡ word
+    place_set = places (place_of s) ∙ if_true (place_of s == place_of s) word (laid (place_of s)) (eq-eqb (place_of s) (place_of s) refl)
+
+    pub elsewhere : (address : ℕ) → address ≢ place_of s → now address ≡ laid address
+    elsewhere address apart = places address ∙ if_false (address == place_of s) word (laid address)
+        (by_cases (address == place_of s) (λ t. absurd (apart (eqb-true address (place_of s) t))) (λ f. f))
+
+    pub in_cells : (address : ℕ) → 16777216 ≤ address → now address ≡ laid address
+    in_cells address from = elsewhere address (λ e. (let small : s < 4096 = can.range in let is : address ≡ 8192 + s = e in omega (arith, from, small, is)))
 
   -- the turn's word stands in the selector's place word, and its row at that place; what is another's is as before
   pub record IsLaid (word : ℕ) (now : Reading) : Type 0 where

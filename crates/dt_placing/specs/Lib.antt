@@ -1,6 +1,7 @@
 -- How the cells of a selector, as a row, get a place. Read `Rows`, the used indexes of a selector; then `Placing`, the rule of
--- placing, what a reading shows, and the kind; and `Examples`, worked out. `Turn` says what one turn does, and `Staying`
--- what one does that moves nothing, for the code and its proofs. How it is shown to be a lawful kind is in `RowsLaws`, `PlacingLaws`, `PlacingStanding` and `PlacingPart`.
+-- placing, what a reading shows, and the kind; and `Examples`, worked out. For the code and its proofs `Turn` says what one
+-- turn does, and `Staying` what one does that moves nothing. How it is shown to be a lawful kind is in `RowsLaws`,
+-- `PlacingLaws`, `PlacingStanding` and `PlacingPart`.
 pub mod Rows
 pub mod Placing
 pub mod Examples

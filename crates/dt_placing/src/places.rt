@@ -90,8 +90,18 @@ impl SelectorPlaces {
     }
 
     /// Sets in the draft what the changes make of the cells and place words of their selectors; every other word of the
-    /// draft stays, and so does what the value stands for. For each selector with a change it reads a word of the tree for
-    /// each class number, and sets as many words as change, or all of its cells where it moves.
+    /// draft stays, and so does what the value stands for.
+    ///
+    /// A selector that has a place, where each cell that its changes are for is its own or isn't used, stays there. It
+    /// costs its changes: the word of each one's cell is read, from the tree and from the draft, and set where it becomes
+    /// another; the place word is read, too. Where no change leaves a cell with an answer, the bits of used cells are read
+    /// class by class up to the first cell of its own that is left, and the place word becomes 0 where none is. Any other
+    /// selector is placed anew: the word of each class number is read three times at its old place, if it had one, and the
+    /// words that change are set, all of its cells where it moves.
+    ///
+    /// No more is copied than the batch touches: eight bytes for each selector with a change; sixteen for each cell that is
+    /// taken or given free, which [`UsedCells`] notes, all cells of a selector among them that is placed anew; and for
+    /// such a selector its row of 2,048 words, two bytes for each class with a cell beside it, one row at a time.
     pub fn stage(
         &mut self,
         geometry: Geometry,
