@@ -22,6 +22,7 @@ pub mod Counted
 pub mod Saturated
 pub mod Listed
 pub mod BelowOne
+pub mod GainedLists
 pub mod Made
 pub mod SizeBounds
 pub mod NoSizes

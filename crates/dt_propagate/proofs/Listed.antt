@@ -42,10 +42,10 @@ module _ {T : Type 0} where
 -- ---- lists of classes
 
 -- each class of the set, before each of the lists
-abbrev before_each : List (List ℕ) → List ℕ → List (List ℕ)
+abbrev pub before_each : List (List ℕ) → List ℕ → List (List ℕ)
 before_each lists set = in_turn (λ class. map (λ classes. class ∷ classes) lists) set
 
-before_length : (lists : List (List ℕ)) (set : List ℕ) → length (before_each lists set) ≡ length set * length lists
+pub before_length : (lists : List (List ℕ)) (set : List ℕ) → length (before_each lists set) ≡ length set * length lists
 before_length lists [] = omega arith
 before_length lists (class ∷ set) =
     let both = length-both (map (λ classes. class ∷ classes) lists) (before_each lists set) in
@@ -65,11 +65,11 @@ abbrev pub all_laters : List (List ℕ) → List (List ℕ)
 all_laters [] = []
 all_laters (set ∷ sets) = before_each (all_firsts sets) set
 
-within_length : (sets : List (List ℕ)) → length (all_within sets) ≡ size sets
+pub within_length : (sets : List (List ℕ)) → length (all_within sets) ≡ size sets
 within_length [] = refl
 within_length (set ∷ sets) = before_length (all_within sets) set ∙ ap (λ n. length set * n) (within_length sets)
 
-firsts_length : (sets : List (List ℕ)) → length (all_firsts sets) ≡ firsts sets
+pub firsts_length : (sets : List (List ℕ)) → length (all_firsts sets) ≡ firsts sets
 firsts_length [] = refl
 firsts_length (set ∷ sets) =
     let rest = before_length (all_firsts sets) set ∙ ap (λ n. length set * n) (firsts_length sets) in omega (arith, rest)
@@ -82,17 +82,17 @@ module _ (program : Program) (lawful : Lawful program) where
   abbrev g : Graph
   g = program.graph
 
-  abbrev AreLive : List ℕ → Type 0
+  abbrev pub AreLive : List ℕ → Type 0
   AreLive classes = All (λ class. IsTrue (is_live g class)) classes
 
-  before : (lists : List (List ℕ)) (high class : ℕ) (classes : List ℕ) → IsTrue (is_live g high) → is_below g.links class high ≡ true →
+  pub before : (lists : List (List ℕ)) (high class : ℕ) (classes : List ℕ) → IsTrue (is_live g high) → is_below g.links class high ≡ true →
       In lists classes → In (before_each lists (descendants g high)) (class ∷ classes)
   before lists high class classes live below i =
       In-turn (λ c. map (λ classes. c ∷ classes) lists) (descendants g high) class (class ∷ classes)
       (cone_has program lawful class high live ∙ below)
       (In-map (λ classes. class ∷ classes) lists classes i)
 
-  in_within : (highs classes : List ℕ) → AreLive highs → begins g.links classes highs ≡ true → length classes ≡ length highs →
+  pub in_within : (highs classes : List ℕ) → AreLive highs → begins g.links classes highs ≡ true → length classes ≡ length highs →
       In (all_within (cones g highs)) classes
   in_within [] [] live b long = inl refl
   in_within [] (class ∷ classes) live b long = absurd (omega (arith, long))
@@ -102,7 +102,7 @@ module _ (program : Program) (lawful : Lawful program) where
       before (all_within (cones g highs)) high class classes (All-head (λ class. IsTrue (is_live g class)) high highs live) parts.0
       (in_within highs classes (All-tail (λ class. IsTrue (is_live g class)) high highs live) parts.1 (omega (arith, long)))
 
-  in_firsts : (highs classes : List ℕ) → AreLive highs → begins g.links classes highs ≡ true → length classes < length highs →
+  pub in_firsts : (highs classes : List ℕ) → AreLive highs → begins g.links classes highs ≡ true → length classes < length highs →
       In (all_firsts (cones g highs)) classes
   in_firsts [] classes live b low = absurd (omega (arith, low))
   in_firsts (high ∷ highs) [] live b low = inl refl

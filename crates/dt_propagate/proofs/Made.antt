@@ -1,24 +1,27 @@
--- What is new in a program where nothing is below more classes than before is below a definition that was made.
-use Rattle.std.proofs.Common.{◌≡◌, ◌==◌, ℕ, true, not, if◌then◌else◌, IsTrue, List, [], ◌∷◌, ◌++◌, length, inl, inr, ◌⊎◌, ⊎_elim, refl, sym, ap, subst, ◌∙◌, arith, All, eqb-true, eq-eqb}
-use Rattle.std.proofs.lemmas.Bool.{false≢true, and_parts, and_from}
-use Rattle.dt_graph.specs.Graph.{is_live}
+-- What is new in a program is below a definition that was made, or one that a class is below that wasn't before.
+use Rattle.std.proofs.Common.{◌≡◌, ◌==◌, ℕ, true, false, not, if◌then◌else◌, IsTrue, List, [], ◌∷◌, ◌++◌, length, filter, inl, inr, ◌⊎◌, ⊎_elim, refl, sym, ap, subst, ◌∙◌, arith, All, eqb-true, eq-eqb}
+use Rattle.std.proofs.lemmas.Bool.{false≢true, and_parts, and_from, or_cases}
+use Rattle.std.specs.List.{list_any}
+use Rattle.dt_graph.specs.Graph.{has_number, is_live}
 use Rattle.dt_graph.specs.Below.{is_below}
-use Rattle.dt_graph.proofs.ListMembers.{by_cases, In, In-append, In-later, In-filter, In-from_filter, In-from_any, any_from_In, In-from_Contains, Contains-from_In}
+use Rattle.dt_graph.proofs.ListMembers.{by_cases, any_listed, In, In-append, In-later, In-map, In-filter, In-from_filter, In-from_any, any_from_In, In-from_Contains, Contains-from_In}
 use Rattle.dt_graph.proofs.SameLists.{same_list_equal}
 use Rattle.dt_selectors.proofs.Arities.{live_in_range}
 use Rattle.dt_definitions.specs.Causes.{has_definition}
-use Rattle.dt_definitions.specs.Program.{Definition, Program, definitions_of, is_definition, same_classes}
+use Rattle.dt_definitions.specs.Program.{Definition, Program, definitions_of, is_definition, key_of, same_classes}
+use Rattle.dt_definitions.specs.Naming.{naming}
 use Rattle.dt_definitions.specs.Differing.{is_at_any}
 use Rattle.dt_definitions.specs.declared.definition_key.DefinitionKey.{DefinitionKey}
 use Rattle.dt_scratch.specs.Query.{Query}
 use Rattle.dt_propagate.specs.Begun.{begins}
-use Rattle.dt_propagate.specs.Bounds.{is_made, made_cells, made_rows, one_if_none}
+use Rattle.dt_propagate.specs.Bounds.{cells_gained, is_gained, is_made, made_cells, made_rows, one_if_none, rows_gained}
 use Rattle.dt_propagate.specs.Marks.{DifferNear}
 use Rattle.dt_propagate.specs.Understood.{Understands, IsRow}
 use Rattle.dt_propagate.proofs.BelowOne.{BelowOne, AsMany, Fewer, live_at, understood_below, below_understood, row_below, below_row}
 use Rattle.dt_propagate.proofs.BoxSizes.{length-both}
 use Rattle.dt_propagate.proofs.CellsAndRows.{definition_at}
-use Rattle.dt_propagate.proofs.Listed.{listed_by, In-listed, query_at, cells_at, rows_at, row_alone, cells_at_length, rows_at_length, in_cells_at, in_rows_at}
+use Rattle.dt_propagate.proofs.GainedLists.{cells_more, rows_more, cells_more_length, rows_more_length, in_cells_more, in_rows_more, gained_at}
+use Rattle.dt_propagate.proofs.Listed.{listed_by, listed_length, In-listed, query_at, cells_at, rows_at, row_alone, cells_at_length, rows_at_length, in_cells_at, in_rows_at}
 
 -- the selector and the classes of a definition at a key
 at_key : (key : DefinitionKey) (d : Definition) → is_definition key.selector key.classes d ≡ true →
@@ -62,15 +65,31 @@ module _ (old new : Program) where
       omega (arith, both, one, rest)))
       (λ f. rw f refl)
 
-module _ (old new : Program) (keys : List DefinitionKey) (edited : List ℕ) (near : DifferNear old new keys edited)
-    (less : (low high : ℕ) → IsTrue (is_below new.graph.links low high) → IsTrue (is_below old.graph.links low high)) where
-  still_begins : (classes highs : List ℕ) → begins new.graph.links classes highs ≡ true → begins old.graph.links classes highs ≡ true
-  still_begins [] highs b = refl
-  still_begins (class ∷ classes) [] b = absurd (false≢true b)
-  still_begins (class ∷ classes) (high ∷ highs) b =
-      let parts = and_parts (is_below new.graph.links class high) (begins new.graph.links classes highs) b in
-      and_from (is_below old.graph.links class high) (begins old.graph.links classes highs) (less class high parts.0) (still_begins classes highs parts.1)
+-- what is below the definitions of the new program that name the class, in the new program alone
+module _ (old new : Program) where
+  abbrev pub cells_from : ℕ → List Query
+  cells_from class = listed_by (λ key. cells_more old.graph new.graph key.selector key.classes) (naming new.definitions class)
 
+  abbrev pub rows_from : ℕ → List Query
+  rows_from class = listed_by (λ key. rows_more old.graph new.graph key.selector key.classes) (naming new.definitions class)
+
+  pub cells_from_length : (class : ℕ) → length (cells_from class) ≡ cells_gained old new class
+  cells_from_length class = listed_length (λ key. cells_more old.graph new.graph key.selector key.classes) _
+      (λ (key : DefinitionKey). cells_more_length old.graph new.graph key.selector key.classes) (naming new.definitions class)
+
+  pub rows_from_length : (class : ℕ) → length (rows_from class) ≡ rows_gained old new class
+  rows_from_length class = listed_length (λ key. rows_more old.graph new.graph key.selector key.classes) _
+      (λ (key : DefinitionKey). rows_more_length old.graph new.graph key.selector key.classes) (naming new.definitions class)
+
+in_numbers : (numbers : List ℕ) (n : ℕ) → IsTrue (has_number numbers n) → In numbers n
+in_numbers [] n h = absurd (false≢true h)
+in_numbers (m ∷ numbers) n h = ⊎_elim
+    (λ here. inl (let e = eqb-true m n here in cc))
+    (λ later. inr (in_numbers numbers n later))
+    (or_cases (m == n) (has_number numbers n) h)
+
+module _ (old new : Program) (keys : List DefinitionKey) (edited gained : List ℕ) (near : DifferNear old new keys edited)
+    (gained_is : (n : ℕ) → has_number gained n ≡ list_any (λ class. is_gained old.graph.links new.graph.links class n) edited) where
   -- the query begins below a definition that was made at one of the keys
   record BelowMade (Fits : ℕ → ℕ → Type 0) (query : Query) : Type 0 where
     key : DefinitionKey
@@ -80,6 +99,20 @@ module _ (old new : Program) (keys : List DefinitionKey) (edited : List ℕ) (ne
     live : All (λ class. IsTrue (is_live new.graph class)) key.classes
     begins : begins new.graph.links query.classes key.classes ≡ true
     fits : Fits (length query.classes) (length key.classes)
+
+  -- the query begins below a definition of the new program, as it didn't in the old one
+  record BelowGained (Fits : ℕ → ℕ → Type 0) (query : Query) : Type 0 where
+    definition : Definition
+    there : In new.definitions definition
+    selector : definition.selector ≡ query.selector
+    live : All (λ class. IsTrue (is_live new.graph class)) definition.classes
+    not_before : begins old.graph.links query.classes definition.classes ≡ false
+    begins : begins new.graph.links query.classes definition.classes ≡ true
+    fits : Fits (length query.classes) (length definition.classes)
+
+  -- as it is below a definition of the old program, or as it isn't
+  abbrev BelowNow : (ℕ → ℕ → Type 0) → Query → Type 0
+  BelowNow Fits query = BelowOne old Fits query ⊎ BelowGained Fits query
 
   module _ (Fits : ℕ → ℕ → Type 0) (query : Query) (one : BelowOne new Fits query) where
     abbrev d : Definition
@@ -91,17 +124,27 @@ module _ (old new : Program) (keys : List DefinitionKey) (edited : List ℕ) (ne
     same_selector : d.selector ≡ query.selector
     same_selector = eqb-true d.selector query.selector (In-from_filter (λ d. d.selector == query.selector) new.definitions d one.own).1
 
-    -- a definition of the old program that does
-    by_old : (c : Definition) → In old.definitions c → c.selector ≡ query.selector → c.classes ≡ d.classes → BelowOne old Fits query
-    by_old c i s e = record {
-      definition = c;
-      own = In-filter (λ d. d.selector == query.selector) old.definitions c i (eq-eqb c.selector query.selector s);
-      begins = still_begins query.classes c.classes (ap (begins new.graph.links query.classes) e ∙ one.begins);
-      fits = subst (λ n. Fits (length query.classes) n) (sym (ap length e)) one.fits;
-    }
+    -- a definition of the old program at its classes
+    by_old : (c : Definition) → In old.definitions c → c.selector ≡ query.selector → c.classes ≡ d.classes → BelowNow Fits query
+    by_old c i s e = by_cases (begins old.graph.links query.classes d.classes)
+        (λ t. inl (record {
+          definition = c;
+          own = In-filter (λ d. d.selector == query.selector) old.definitions c i (eq-eqb c.selector query.selector s);
+          begins = ap (begins old.graph.links query.classes) e ∙ t;
+          fits = subst (λ n. Fits (length query.classes) n) (sym (ap length e)) one.fits;
+        }))
+        (λ f. inr (record {
+          definition = d;
+          there = there;
+          selector = same_selector;
+          live = live_at new near.new_lawful query d one.own;
+          begins = one.begins;
+          not_before = f;
+          fits = one.fits;
+        }))
 
     at_one : (key : DefinitionKey) → In keys key → is_definition key.selector key.classes d ≡ true →
-        BelowOne old Fits query ⊎ BelowMade Fits query
+        BelowNow Fits query ⊎ BelowMade Fits query
     at_one key listed t = by_cases (has_definition old key.selector key.classes)
         (λ h.
         let c = In-from_any (is_definition key.selector key.classes) old.definitions h in
@@ -121,11 +164,31 @@ module _ (old new : Program) (keys : List DefinitionKey) (edited : List ℕ) (ne
         at : (d.selector ≡ key.selector) × (d.classes ≡ key.classes)
         at = at_key key d t
 
-    below_either : BelowOne old Fits query ⊎ BelowMade Fits query
+    below_either : BelowNow Fits query ⊎ BelowMade Fits query
     below_either = by_cases (is_at_any keys d)
         (λ t. let key = In-from_any (λ key. is_definition key.selector key.classes d) keys t in at_one key.0 key.1 key.2)
         (λ f. inl (by_old d (In-from_Contains old.definitions d ((near.definitions d f).1 (Contains-from_In new.definitions d there)))
         same_selector refl))
+
+  -- where it is among the new lists
+  module _ (Fits : ℕ → ℕ → Type 0) (query : Query) (one : BelowGained Fits query) (more : ℕ → List ℕ → List Query)
+      (in_more : In (more one.definition.selector one.definition.classes) query) where
+    in_from : In (listed_by (λ class. listed_by (λ (key : DefinitionKey). more key.selector key.classes) (naming new.definitions class)) gained) query
+    in_from =
+        let d = one.definition in
+        let at = gained_at old new near.new_lawful query.classes d.classes one.begins one.not_before in
+        let moved : is_gained old.graph.links new.graph.links at.low at.high ≡ true =
+        and_from (is_below new.graph.links at.low at.high) (not (is_below old.graph.links at.low at.high)) at.after (ap not at.before) in
+        let low : has_number edited at.low ≡ true = by_cases (has_number edited at.low) (λ t. t)
+        (λ f. absurd (false≢true (sym at.before ∙ near.others at.low at.high f ∙ at.after))) in
+        let listed : has_number gained at.high ≡ true =
+        gained_is at.high ∙ any_listed (λ class. is_gained old.graph.links new.graph.links class at.high) edited at.low low moved in
+        In-listed (λ class. listed_by (λ (key : DefinitionKey). more key.selector key.classes) (naming new.definitions class)) gained at.high query
+        (in_numbers gained at.high listed)
+        (In-listed (λ (key : DefinitionKey). more key.selector key.classes) (naming new.definitions at.high) (key_of d) query
+        (In-map key_of (filter (λ d. has_number d.classes at.high) new.definitions) d
+        (In-filter (λ d. has_number d.classes at.high) new.definitions d one.there at.listed))
+        in_more)
 
   -- ---- cells
 
@@ -135,10 +198,23 @@ module _ (old new : Program) (keys : List DefinitionKey) (edited : List ℕ) (ne
       rw t (subst (λ selector. In (cells_at new.graph selector made.key.classes) query) (sym made.selector)
       (in_cells_at new near.new_lawful query made.key.classes made.live made.begins made.fits))
 
-  pub cells_covered : (query : Query) → Understands new query → Understands old query ⊎ In (listed_by (cells_made old new) keys) query
+  in_cells_from : (query : Query) (one : BelowGained AsMany query) → In (listed_by (cells_from old new) gained) query
+  in_cells_from query one =
+      in_from AsMany query one (cells_more old.graph new.graph)
+      (subst (λ selector. In (cells_more old.graph new.graph selector one.definition.classes) query) (sym one.selector)
+      (in_cells_more old new near.new_lawful query one.definition.classes one.live one.begins one.not_before one.fits))
+
+  abbrev pub cells_new : List Query
+  cells_new = listed_by (cells_made old new) keys ++ listed_by (cells_from old new) gained
+
+  pub cells_covered : (query : Query) → Understands new query → Understands old query ⊎ In cells_new query
   cells_covered query understood = ⊎_elim
+      (λ now. ⊎_elim
       (λ one. inl (below_understood old near.old_lawful query one))
-      (λ made. inr (In-listed (cells_made old new) keys made.key query made.listed (in_cells_made query made)))
+      (λ one. inr (In-later (listed_by (cells_made old new) keys) (listed_by (cells_from old new) gained) query (in_cells_from query one)))
+      now)
+      (λ made. inr (In-append (listed_by (cells_made old new) keys) (listed_by (cells_from old new) gained) query
+      (In-listed (cells_made old new) keys made.key query made.listed (in_cells_made query made))))
       (below_either AsMany query (understood_below new near.new_lawful query understood))
 
   -- ---- rows
@@ -171,11 +247,24 @@ module _ (old new : Program) (keys : List DefinitionKey) (edited : List ℕ) (ne
       rw t (subst (λ selector. In (alone_if_none (definitions_of old selector) selector ++ rows_at new.graph selector made.key.classes) query)
       (sym made.selector) i)
 
-  pub rows_covered : (query : Query) → IsRow new query → IsRow old query ⊎ In (listed_by (rows_made old new) keys) query
+  in_rows_from : (query : Query) (one : BelowGained Fewer query) → In (listed_by (rows_from old new) gained) query
+  in_rows_from query one =
+      in_from Fewer query one (rows_more old.graph new.graph)
+      (subst (λ selector. In (rows_more old.graph new.graph selector one.definition.classes) query) (sym one.selector)
+      (in_rows_more old new near.new_lawful query one.definition.classes one.live one.begins one.not_before one.fits))
+
+  abbrev pub rows_new : List Query
+  rows_new = listed_by (rows_made old new) keys ++ listed_by (rows_from old new) gained
+
+  pub rows_covered : (query : Query) → IsRow new query → IsRow old query ⊎ In rows_new query
   rows_covered query row = ⊎_elim
+      (λ now. ⊎_elim
       (λ one. inl (below_row old near.old_lawful query one))
+      (λ one. inr (In-later (listed_by (rows_made old new) keys) (listed_by (rows_from old new) gained) query (in_rows_from query one)))
+      now)
       (λ made. ⊎_elim
       (λ o. inl o)
-      (λ i. inr (In-listed (rows_made old new) keys made.key query made.listed (in_rows_made query made i)))
+      (λ i. inr (In-append (listed_by (rows_made old new) keys) (listed_by (rows_from old new) gained) query
+      (In-listed (rows_made old new) keys made.key query made.listed (in_rows_made query made i))))
       (row_either query.selector query.classes made))
       (below_either Fewer query (row_below new near.new_lawful query row))

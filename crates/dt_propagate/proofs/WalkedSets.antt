@@ -1,9 +1,8 @@
 -- A walk over a set, each time to the first number from a bound on: the numbers that are gone by.
-use Rattle.std.proofs.Common.{◌≡◌, ◌==◌, ℕ, ◌+◌, ◌≤◌, Bool, ◌||◌, IsTrue, nat_lt, inl, inr, ◌⊎◌, ⊎_elim, eqb-true, List, [], ◌∷◌, ◌++◌, None, Some, filter, refl, sym, ap, ◌∙◌, arith, ltb-true, append_assoc, append-nil}
-use Rattle.std.specs.List.{list_any}
-use Rattle.std.proofs.lemmas.Bool.{or_cases}
+use Rattle.std.proofs.Common.{◌≡◌, ℕ, ◌+◌, ◌≤◌, Bool, ◌||◌, nat_lt, List, [], ◌∷◌, ◌++◌, None, Some, filter, refl, sym, ap, ◌∙◌, arith, ltb-true, append_assoc, append-nil}
+use Rattle.std.specs.List.{list_any, sum_by}
+use Rattle.std.proofs.lemmas.List.Sums.{sum_by_push}
 use Rattle.std.proofs.lemmas.Bool.Decides.{nat_tests}
-use Rattle.dt_graph.specs.Graph.{has_number}
 use Rattle.dt_graph.specs.Lawful.{AscendingNumbers}
 use Rattle.dt_graph.specs.FirstFrom.{first_from}
 use Rattle.dt_graph.proofs.AscendingSets.{ascending_tail, first_some}
@@ -59,14 +58,6 @@ pub any_all : (test : ℕ → Bool) (numbers : List ℕ) (least : ℕ) (start af
     after ≡ (start || list_any test (gone_by least numbers)) → after ≡ (start || list_any test numbers)
 any_all test numbers least start after none a = a ∙ ap (λ ns. start || list_any test ns) (gone_all numbers least none)
 
--- a number that is gone by is one of those before, or the last
-pub gone_cases : (numbers : List ℕ) (least number next n : ℕ) → AscendingNumbers numbers → first_from least numbers ≡ Some number → next ≡ number + 1 →
-    IsTrue (has_number (gone_by next numbers) n) → IsTrue (has_number (gone_by least numbers) n) ⊎ (number ≡ n)
-gone_cases numbers least number next n ascending found e there =
-    ⊎_elim (λ before. inl before) (λ here. inr (eqb-true number n here))
-    (or_cases (has_number (gone_by least numbers) n) (number == n)
-    (sym (ap (list_any (λ m. m == n)) (gone_more numbers least number next ascending found e) ∙ any_pushed (λ m. m == n) (gone_by least numbers) number) ∙ there))
-
 -- ---- what each gives in turn
 
 module _ {T : Type 0} (f : ℕ → List T) where
@@ -90,3 +81,16 @@ module _ {T : Type 0} (f : ℕ → List T) where
   pub turns_all : (numbers : List ℕ) (least : ℕ) (start after : List T) → first_from least numbers ≡ None →
       after ≡ start ++ in_turn f (gone_by least numbers) → after ≡ start ++ in_turn f numbers
   turns_all numbers least start after none a = a ∙ ap (λ ns. start ++ in_turn f ns) (gone_all numbers least none)
+
+-- ---- the sum over them
+
+pub sum_begun : (f : ℕ → ℕ) (numbers : List ℕ) → sum_by f (gone_by 0 numbers) ≡ 0
+sum_begun f numbers = ap (sum_by f) (gone_none numbers)
+
+pub sum_more : (f : ℕ → ℕ) (numbers : List ℕ) (least number next : ℕ) → AscendingNumbers numbers → first_from least numbers ≡ Some number →
+    next ≡ number + 1 → sum_by f (gone_by next numbers) ≡ sum_by f (gone_by least numbers) + f number
+sum_more f numbers least number next ascending found e =
+    ap (sum_by f) (gone_more numbers least number next ascending found e) ∙ sum_by_push f (gone_by least numbers) number
+
+pub sum_all : (f : ℕ → ℕ) (numbers : List ℕ) (least : ℕ) → first_from least numbers ≡ None → sum_by f (gone_by least numbers) ≡ sum_by f numbers
+sum_all f numbers least none = ap (sum_by f) (gone_all numbers least none)

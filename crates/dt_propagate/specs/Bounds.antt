@@ -1,9 +1,11 @@
--- Bounds of cells and rows that cost little: each definition is counted by itself.
-use Rattle.std.specs.Prelude.{ℕ, ◌+◌, ◌*◌, ◌≤◌, Bool, ◌&&◌, not, if◌then◌else◌, List, [], ◌∷◌, length, map}
+-- Bounds of cells and rows that cost little: each definition that is new, or is above more than before, is counted by itself.
+use Rattle.std.specs.Prelude.{ℕ, ◌+◌, ◌*◌, ◌≤◌, Bool, ◌&&◌, not, if◌then◌else◌, List, [], ◌∷◌, length, map, filter}
 use Rattle.std.specs.List.{sum_by}
-use Rattle.dt_graph.specs.Graph.{Graph}
+use Rattle.dt_graph.specs.Graph.{Graph, Link}
+use Rattle.dt_graph.specs.Below.{is_below}
 use Rattle.dt_graph.specs.Descendants.{descendants}
 use Rattle.dt_definitions.specs.Causes.{has_definition}
+use Rattle.dt_definitions.specs.Naming.{naming}
 use Rattle.dt_definitions.specs.Program.{Definition, Program, definitions_of}
 use Rattle.dt_definitions.specs.declared.definition_key.DefinitionKey.{DefinitionKey}
 use Rattle.dt_propagate.specs.Boxes.{size}
@@ -25,31 +27,41 @@ abbrev pub laters : List (List ℕ) → ℕ
 laters [] = 0
 laters (set ∷ sets) = length set * firsts sets
 
--- ---- the definitions of a program, each by itself
+-- ---- what is below more than before
 
-abbrev pub cells_below : Graph → List Definition → ℕ
-cells_below graph definitions = sum_by (λ d. size (cones graph d.classes)) definitions
+-- whether the first is below the second by the new links alone
+abbrev pub is_gained : List Link → List Link → ℕ → ℕ → Bool
+is_gained old new low high = is_below new low high && not (is_below old low high)
 
-abbrev pub rows_below : Graph → List Definition → ℕ
-rows_below graph definitions = sum_by (λ d. laters (cones graph d.classes)) definitions
+-- the live classes that are below the class in the new graph alone
+abbrev pub newly_below : Graph → Graph → ℕ → List ℕ
+newly_below old new class = filter (λ low. not (is_below old.links low class)) (descendants new class)
 
--- 1 where there is a definition, so that the selector with no class is a row; and 1 where there is none
-abbrev pub one_if_some : List Definition → ℕ
-one_if_some [] = 0
-one_if_some (d ∷ definitions) = 1
+-- how many lists of classes are below these in the new graph with a class that is below that of its position in the new
+-- graph alone, each counted once for each such class; and how many of them begin, with one class or more but not all
+abbrev pub size_gained : Graph → Graph → List ℕ → ℕ
+size_gained old new [] = 0
+size_gained old new (high ∷ highs) =
+    length (newly_below old new high) * size (cones new highs) + length (descendants new high) * size_gained old new highs
 
+abbrev pub firsts_gained : Graph → Graph → List ℕ → ℕ
+firsts_gained old new [] = 0
+firsts_gained old new (high ∷ highs) =
+    length (newly_below old new high) * firsts (cones new highs) + length (descendants new high) * firsts_gained old new highs
+
+-- of all definitions of the new program that name the class
+abbrev pub cells_gained : Program → Program → ℕ → ℕ
+cells_gained old new class = sum_by (λ key. size_gained old.graph new.graph key.classes) (naming new.definitions class)
+
+abbrev pub rows_gained : Program → Program → ℕ → ℕ
+rows_gained old new class = sum_by (λ key. firsts_gained old.graph new.graph key.classes) (naming new.definitions class)
+
+-- ---- what is new
+
+-- 1 where there is no definition, so that the selector with no class is no row yet
 abbrev pub one_if_none : List Definition → ℕ
 one_if_none [] = 1
 one_if_none (d ∷ definitions) = 0
-
--- of one selector
-abbrev pub cells_of : Program → ℕ → ℕ
-cells_of program selector = cells_below program.graph (definitions_of program selector)
-
-abbrev pub rows_of : Program → ℕ → ℕ
-rows_of program selector = one_if_some (definitions_of program selector) + rows_below program.graph (definitions_of program selector)
-
--- ---- what is new
 
 -- whether the new program alone has a definition there
 abbrev pub is_made : Program → Program → DefinitionKey → Bool

@@ -4,7 +4,7 @@ use Rattle.dt_propagate.specs.Boxes.{Box, is_within, is_within_any, after_class,
 use Rattle.dt_definitions.specs.Program.{Program}
 use Rattle.dt_definitions.specs.Step.{stepped}
 use Rattle.dt_definitions.specs.declared.edit.Edit.TheVariants as edit
-use Rattle.dt_propagate.specs.Bounds.{firsts, laters, cells_of, rows_of, is_made, made_cells, made_rows}
+use Rattle.dt_propagate.specs.Bounds.{firsts, laters, is_gained, newly_below, size_gained, firsts_gained, cells_gained, rows_gained, is_made, made_cells, made_rows}
 use Rattle.dt_propagate.specs.Counts.{is_begun, is_begun_any, box_of, boxes_of}
 use Rattle.dt_propagate.specs.CandidateBoxes.{candidate_box}
 use Rattle.dt_propagate.specs.FinerMarks.{is_marked, are_named}
@@ -117,13 +117,6 @@ three_firsts = refl
 two_laters : laters low.sets ≡ 2
 two_laters = refl
 
--- each definition of the diamond by itself: two cells each, and one row for the selector
-cells_of_both : cells_of diamond f ≡ 4
-cells_of_both = refl
-
-one_row : rows_of diamond f ≡ 1
-one_row = refl
-
 -- one more definition, at A, is new, and all four classes are below it; that at B is there already
 abbrev with_a : Program
 with_a = stepped diamond (edit.Define f (A ∷ []) 40 ∷ [])
@@ -136,3 +129,32 @@ no_row_more = refl
 
 not_made_at_b : is_made diamond with_a (record { selector = f; classes = B ∷ [] }) ≡ false
 not_made_at_b = refl
+
+-- a link from B to C brings B below C, and D was there before: so one list more is below C, and below C and C there are
+-- three that begin with B and three that end with it
+abbrev linked : Program
+linked = stepped diamond (edit.Link B C ∷ [])
+
+b_is_gained : is_gained diamond.graph.links linked.graph.links B C ≡ true
+b_is_gained = refl
+
+d_is_not : is_gained diamond.graph.links linked.graph.links D C ≡ false
+d_is_not = refl
+
+b_below_c : newly_below diamond.graph linked.graph C ≡ B ∷ []
+b_below_c = refl
+
+one_more : size_gained diamond.graph linked.graph (C ∷ []) ≡ 1
+one_more = refl
+
+three_and_three : size_gained diamond.graph linked.graph (C ∷ C ∷ []) ≡ 6
+three_and_three = refl
+
+one_row_more : firsts_gained diamond.graph linked.graph (C ∷ C ∷ []) ≡ 1
+one_row_more = refl
+
+one_cell_more : cells_gained diamond linked C ≡ 1
+one_cell_more = refl
+
+no_row_with_a_class : rows_gained diamond linked C ≡ 0
+no_row_with_a_class = refl

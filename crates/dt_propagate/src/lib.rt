@@ -3,11 +3,13 @@
 
 mod bound;
 mod change_fault;
+mod cones;
 mod count;
 mod differences;
 mod edited;
 mod found;
 mod full;
+mod gained;
 mod laws;
 mod limits;
 mod marks;

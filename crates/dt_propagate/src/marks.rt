@@ -3,6 +3,7 @@ ghost use Rattle.std.specs.List.{list_any};
 ghost use Rattle.dt_graph.specs.Graph.{has_number};
 ghost use Rattle.dt_graph.specs.Below.{is_below};
 ghost use Rattle.dt_definitions.specs.Program.{definitions_of};
+ghost use Rattle.dt_propagate.specs.Bounds.{is_gained};
 ghost use Rattle.dt_propagate.specs.Marks.{DifferBelow, NearTells, NearsTell, has_at, is_below_in, is_moved, is_named_at};
 ghost use Rattle.dt_definitions.specs.declared.definition_key.DefinitionKey.{DefinitionKey};
 
@@ -69,27 +70,25 @@ pub(crate) fn moved(old: &ClassGraph, new: &ClassGraph, lows: &ClassSet) -> Clas
     moved
 }
 
-// Whether the class is below no other classes than before; where it isn't so, nothing is said.
-fn gains_none(old: &ClassGraph, new: &ClassGraph, class: ClassNo) -> bool
-    ensures { IsTrue result → (high : ℕ) → IsTrue (is_below new.now.links class high) → IsTrue (is_below old.now.links class high) }
+// The classes that the class is below in the new graph alone are in the set from now on.
+fn insert_gained(old: &ClassGraph, new: &ClassGraph, class: ClassNo, gained: &mut ClassSet)
+    ensures { (n : ℕ) → has_number gained.new n ≡ (has_number gained.old n || is_gained old.now.links new.now.links class n) }
 {
-    new.above(class).without(old.above(class)).len() == 0
+    gained.insert_all(&new.above(class).without(old.above(class)));
 }
 
-// Whether none of these is; where it isn't so, nothing is said.
-pub(crate) fn is_none_gained(old: &ClassGraph, new: &ClassGraph, lows: &ClassSet) -> bool
-    ensures { IsTrue result → (low high : ℕ) → IsTrue (has_number lows.now low) → IsTrue (is_below new.now.links low high)
-        → IsTrue (is_below old.now.links low high) }
+// The classes that one of these is below in the new graph alone.
+pub(crate) fn gained(old: &ClassGraph, new: &ClassGraph, lows: &ClassSet) -> ClassSet
+    ensures { (n : ℕ) → has_number result n ≡ list_any (λ class. is_gained old.now.links new.now.links class n) lows.now }
 {
     lows.law();
+    let mut gained = ClassSet::new();
     let mut least = 0;
     while let Some(class) = lows.first_from(least) {
-        if !gains_none(old, new, class) {
-            return false;
-        }
+        insert_gained(old, new, class, &mut gained);
         least = class.number() as usize + 1;
     }
-    true
+    gained
 }
 
 // The class at the position is in the set from now on.

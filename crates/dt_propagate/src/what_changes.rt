@@ -35,9 +35,10 @@ use std::sync::ledger::Ledger;
 /// definitions name in that position. Selectors that no definition at a class which moved, and no edit, names cost
 /// nothing but a bit: 64 of them that are next to each other in number are passed over by one look.
 ///
-/// Where the batch leaves no class below one that it wasn't below, the new sizes are the old ones and what is below each
-/// definition that it makes: they cost nothing that grows with the program. Else each definition of the new program is
-/// looked at once. Where these sizes pass a limit, cells or rows are counted, class by class, and stand for it from then on.
+/// The new sizes are the old ones, what is below each definition that the batch makes, and what more is below each
+/// definition at a class that others are below now and weren't before: they cost nothing that grows with the rest of the
+/// program, and are no less than the old ones. Where they pass a limit, cells or rows are counted, class by class, and
+/// stand for it from then on.
 pub fn changes<L: Ledger>(
     alloc: Global,
     old: &Program,

@@ -1,5 +1,5 @@
 use Rattle.std.proofs.Common.{length}
-use Rattle.dt_propagate.proofs.bound.+size_below.Given as goal
+use Rattle.dt_propagate.proofs.cones.+size_below.Given as goal
 
 abbrev pub decreases-size_below : goal.decreases-size_below
 decreases-size_below l = length l.highs.now
