@@ -1,5 +1,5 @@
 /// Addresses that look drawn, of the bits of a mask.
-#[derive(Clone, Copy, Debug)]
+#[derive(Clone, Copy)]
 pub struct Addresses {
     state: u64,
     mask: u64,

@@ -7,7 +7,7 @@ use crate::fault::Fault;
 use crate::filler::Filler;
 use crate::layout::{LEAF, READERS};
 use crate::plain;
-use crate::rounds::{time_fills, time_work};
+use crate::rounds::{time_fills, time_job};
 use crate::stage::Stage;
 use crate::work::ALL;
 use dt_version::{AuthorSeat, Limits, Store};
@@ -58,8 +58,8 @@ fn time_stage<R: Print + Clock + Threads + Sync + AllocGlobal>(
     stage: &mut Stage<'_>,
     words: &[AtomicU64],
 ) -> Result<(), Fault> {
-    for work in ALL {
-        time_work(rt, stage, words, work)?;
+    for job in &ALL {
+        time_job(rt, stage, words, job)?;
     }
     Ok(())
 }

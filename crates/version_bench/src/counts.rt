@@ -1,5 +1,6 @@
+use crate::addresses::Addresses;
 use crate::stage::Stage;
-use crate::work::{ALL, Work, in_plain, in_store};
+use crate::work::{ALL, Job, in_plain, in_store};
 use std::io;
 use std::sync::atomic::AtomicU64;
 use std::thread::Threads;
@@ -14,12 +15,12 @@ fn print_count<R: Threads + Sync + Print>(
     rt: &R,
     stage: &mut Stage<'_>,
     words: &[AtomicU64],
-    work: Work,
+    job: &Job,
 ) -> io::Result<()> {
-    let (mut addresses, what) = (work.addresses(MASK), work.words());
+    let (mut addresses, what) = (Addresses::new(job.mask & MASK), job.words);
     let mut same = addresses;
-    let ours = in_store(rt, stage, work, &mut addresses, COUNT);
-    let plain = in_plain(rt, words, work, &mut same, COUNT);
+    let ours = in_store(rt, stage, job.work, &mut addresses, COUNT);
+    let plain = in_plain(rt, words, job.work, &mut same, COUNT);
     println!(rt; "{what} | store {ours} | plain {plain}")
 }
 
@@ -29,8 +30,8 @@ pub fn print_counts<R: Threads + Sync + Print>(
     stage: &mut Stage<'_>,
     words: &[AtomicU64],
 ) -> io::Result<()> {
-    for work in ALL {
-        print_count(rt, stage, words, work)?;
+    for job in &ALL {
+        print_count(rt, stage, words, job)?;
     }
     Ok(())
 }

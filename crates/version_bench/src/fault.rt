@@ -3,7 +3,7 @@ use std::alloc::{AllocError, AllocFailed};
 use std::io;
 
 /// Why a run ended early.
-#[derive(Clone, Copy, Debug, PartialEq, Eq)]
+#[derive(Clone, Copy)]
 pub enum Fault {
     /// Memory was wanted, and none was found.
     NoMemory,

@@ -6,7 +6,7 @@ use std::rt::Clock;
 use std::time::Instant;
 
 /// A number of thousandths, written with three decimals.
-#[derive(Clone, Copy, Debug, PartialEq, Eq, PartialOrd, Ord)]
+#[derive(Clone, Copy)]
 pub struct Thousandths {
     /// How many thousandths.
     pub count: u64,
@@ -27,7 +27,7 @@ pub fn nanoseconds(rt: &impl Clock, start: &Instant) -> Result<u64, Fault> {
 }
 
 /// The median, the least and the greatest of the figures of some rounds.
-#[derive(Clone, Copy, Debug)]
+#[derive(Clone, Copy)]
 pub struct Summary {
     /// The one in the middle, or the upper one of the two.
     pub median: Thousandths,

@@ -1,5 +1,5 @@
 /// Where the root stands that is not current.
-#[derive(Clone, Copy, Debug, PartialEq, Eq)]
+#[derive(Clone, Copy)]
 pub enum Known {
     /// It may be laid.
     Free,

@@ -24,6 +24,7 @@ mod rounds;
 mod rows;
 mod stage;
 mod turner;
+mod visitors;
 mod visits;
 mod words;
 mod work;

@@ -1,23 +1,32 @@
 use crate::plain::visit_many;
+use crate::visitors::{Pair, Visitor};
 use std::sync::atomic::AtomicU64;
-use std::thread::{Threads, join_mut};
 
-/// Two threads that add to the plain words so many times each; how often in all.
-pub fn visit_by_two<R: Threads + Sync>(rt: &R, words: &[AtomicU64], count: u32) -> u32 {
-    let (one, other) = join_mut(
-        rt,
-        &mut || visit_many(words, count),
-        &mut || visit_many(words, count),
-    );
-    one.wrapping_add(other)
+/// Who adds to the plain words.
+#[derive(Clone, Copy)]
+pub struct PlainReader<'w> {
+    /// The words.
+    pub words: &'w [AtomicU64],
 }
 
-/// Four threads do.
-pub fn visit_by_four<R: Threads + Sync>(rt: &R, words: &[AtomicU64], count: u32) -> u32 {
-    let (two, others) = join_mut(
-        rt,
-        &mut || visit_by_two(rt, words, count),
-        &mut || visit_by_two(rt, words, count),
-    );
-    two.wrapping_add(others)
+impl<'w> Visitor for PlainReader<'w> {
+    fn visit(&mut self, count: u32) -> u32 {
+        visit_many(self.words, count)
+    }
+}
+
+/// Two of them.
+pub fn two<'w>(words: &'w [AtomicU64]) -> Pair<PlainReader<'w>> {
+    Pair {
+        one: PlainReader { words },
+        other: PlainReader { words },
+    }
+}
+
+/// Four of them.
+pub fn four<'w>(words: &'w [AtomicU64]) -> Pair<Pair<PlainReader<'w>>> {
+    Pair {
+        one: two(words),
+        other: two(words),
+    }
 }

@@ -7,7 +7,7 @@ use crate::filler::Filler;
 use crate::plain;
 use crate::rows::{Rows, Unit};
 use crate::stage::Stage;
-use crate::work::{Work, in_plain, in_store};
+use crate::work::{Job, in_plain, in_store};
 use std::rt::Clock;
 use std::sync::atomic::AtomicU64;
 use std::thread::Threads;
@@ -73,17 +73,17 @@ fn round<R: Clock + Threads + Sync>(
     rows: &mut Rows,
     stage: &mut Stage<'_>,
     words: &[AtomicU64],
-    work: Work,
+    job: &Job,
     addresses: &mut Addresses,
 ) -> Result<(), Fault> {
-    let (often, mut same) = (work.often(), *addresses);
+    let (often, mut same) = (job.often, *addresses);
     let start = Instant::now(rt)?;
-    let found = in_store(rt, stage, work, addresses, often);
+    let found = in_store(rt, stage, job.work, addresses, often);
     let ours = nanoseconds(rt, &start)?;
     let start = Instant::now(rt)?;
-    let wanted = in_plain(rt, words, work, &mut same, often);
+    let wanted = in_plain(rt, words, job.work, &mut same, often);
     let plain = nanoseconds(rt, &start)?;
-    rows.put(ours, plain, often.saturating_mul(work.threads()))?;
+    rows.put(ours, plain, often.saturating_mul(job.threads))?;
     if found == wanted {
         Ok(())
     } else {
@@ -91,30 +91,30 @@ fn round<R: Clock + Threads + Sync>(
     }
 }
 
-// Times all rounds of work, over 32,768 leaves.
+// Times all rounds of a job, over 32,768 leaves.
 fn time_rounds<R: Clock + Threads + Sync>(
     rt: &R,
     rows: &mut Rows,
     stage: &mut Stage<'_>,
     words: &[AtomicU64],
-    work: Work,
+    job: &Job,
 ) -> Result<(), Fault> {
-    let mut addresses = work.addresses(0xff_ffff);
-    for _ in 0..work.rounds() {
-        round(rt, rows, stage, words, work, &mut addresses)?;
+    let mut addresses = Addresses::new(job.mask);
+    for _ in 0..job.rounds {
+        round(rt, rows, stage, words, job, &mut addresses)?;
     }
     Ok(())
 }
 
-/// Times the work, and prints its lines.
-pub fn time_work<R: Clock + Threads + Sync + Print + AllocGlobal>(
+/// Times the job, and prints its lines.
+pub fn time_job<R: Clock + Threads + Sync + Print + AllocGlobal>(
     rt: &R,
     stage: &mut Stage<'_>,
     words: &[AtomicU64],
-    work: Work,
+    job: &Job,
 ) -> Result<(), Fault> {
-    let mut rows = Rows::new(rt.alloc(), work.unit());
-    time_rounds(rt, &mut rows, stage, words, work)?;
-    rows.print(rt, work.words())?;
+    let mut rows = Rows::new(rt.alloc(), job.unit);
+    time_rounds(rt, &mut rows, stage, words, job)?;
+    rows.print(rt, job.words)?;
     Ok(())
 }

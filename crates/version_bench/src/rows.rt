@@ -4,7 +4,7 @@ use std::alloc::Global;
 use std::io;
 
 /// What a figure is of a time and a number of operations.
-#[derive(Clone, Copy, Debug, PartialEq, Eq)]
+#[derive(Clone, Copy)]
 pub enum Unit {
     /// Nanoseconds for each operation.
     Nanoseconds,

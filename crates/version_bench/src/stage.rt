@@ -1,7 +1,7 @@
 ghost use Rattle.std.specs.Prelude.{◌≡◌};
 
 use crate::filler::Filler;
-use crate::readers::Readers;
+use crate::readers::{Readers, new_four};
 use crate::turner::Turner;
 
 /// An author and its four readers, over a store whose tree is current.
@@ -20,7 +20,7 @@ impl<'s> Stage<'s> {
     {
         let mut turner = filler.into_turner();
         turner.turn_many(1);
-        let readers = Readers::new(&mut turner)?;
+        let readers = new_four(&mut turner)?;
         Some(Stage { turner, readers })
     }
 }

@@ -1,5 +1,5 @@
 /// What the program is asked for.
-#[derive(Clone, Copy, Debug, PartialEq, Eq)]
+#[derive(Clone, Copy)]
 pub enum Command {
     /// Counts of small stores, with nothing timed.
     Count,
@@ -11,10 +11,17 @@ pub enum Command {
 
 /// The command that the words after the program's name are; `None` where they are none.
 pub fn read_command(words: &[String]) -> Option<Command> {
-    match words {
-        [] => Some(Command::Count),
-        [word] if word.as_str() == "versions" => Some(Command::Versions),
-        [word] if word.as_str() == "store" => Some(Command::Store),
-        _ => None,
+    let Some(word) = words.first() else {
+        return Some(Command::Count);
+    };
+    if words.len() > 1 {
+        return None;
     }
+    if word.as_str() == "versions" {
+        return Some(Command::Versions);
+    }
+    if word.as_str() == "store" {
+        return Some(Command::Store);
+    }
+    None
 }

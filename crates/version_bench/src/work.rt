@@ -1,14 +1,14 @@
-ghost use Rattle.std.specs.Prelude.{◌≤◌};
-
 use crate::addresses::Addresses;
+use crate::plain;
+use crate::plain_readers::{four, two};
 use crate::rows::Unit;
 use crate::stage::Stage;
-use crate::{plain, plain_readers};
+use crate::visitors::{Visitor, visit_by_four, visit_by_two};
 use std::sync::atomic::AtomicU64;
 use std::thread::Threads;
 
 /// What is done to a store and to plain words.
-#[derive(Clone, Copy, Debug, PartialEq, Eq)]
+#[derive(Clone, Copy)]
 pub enum Work {
     /// A reader looks, enters and leaves.
     Visits,
@@ -28,78 +28,103 @@ pub enum Work {
     Four,
 }
 
-/// All of it.
-pub const ALL: [Work; 8] = [
-    Work::Visits,
-    Work::Few,
-    Work::Many,
-    Work::Turns,
-    Work::Polls,
-    Work::One,
-    Work::Two,
-    Work::Four,
-];
-
-impl Work {
+/// A work, and how it is timed.
+#[derive(Clone, Copy)]
+pub struct Job {
+    /// What is done.
+    pub work: Work,
     /// The words that are printed.
-    pub fn words(self) -> &'static str {
-        match self {
-            Work::Visits => "look, enter and leave",
-            Work::Few => "read a word of eight",
-            Work::Many => "read a word of all",
-            Work::Turns => "lay, publish and poll",
-            Work::Polls => "poll a held root",
-            Work::One => "entries by 1 thread",
-            Work::Two => "entries by 2 threads",
-            Work::Four => "entries by 4 threads",
-        }
-    }
-
+    pub words: &'static str,
     /// The unit of its figures.
-    pub fn unit(self) -> Unit {
-        match self {
-            Work::One | Work::Two | Work::Four => Unit::Rate,
-            _ => Unit::Nanoseconds,
-        }
-    }
-
+    pub unit: Unit,
     /// How many rounds are timed. Those of no threads are short, so that few are interrupted.
-    pub fn rounds(self) -> u32 {
-        match self {
-            Work::One | Work::Two | Work::Four => 21,
-            _ => 101,
-        }
-    }
-
+    pub rounds: u32,
     /// How often it is done in a round that is timed, by each thread.
-    pub fn often(self) -> u32 {
-        match self {
-            Work::Visits => 20_000,
-            Work::Many | Work::Turns => 10_000,
-            Work::Polls => 200_000,
-            Work::Few | Work::One | Work::Two | Work::Four => 100_000,
-        }
-    }
-
+    pub often: u32,
     /// How many threads do it.
-    pub fn threads(self) -> u32
-        ensures { result ≤ 4 }
-    {
-        match self {
-            Work::Two => 2,
-            Work::Four => 4,
-            _ => 1,
-        }
-    }
-
-    /// The addresses that are read, of the bits of this mask.
-    pub fn addresses(self, all: u64) -> Addresses {
-        match self {
-            Work::Few => Addresses::new(7),
-            _ => Addresses::new(all),
-        }
-    }
+    pub threads: u32,
+    /// Which bits its addresses have, of those that lead to a leaf.
+    pub mask: u64,
 }
+
+// The bits of the addresses of 32,768 leaves.
+const ALL_BITS: u64 = 0xff_ffff;
+
+/// All of them.
+pub const ALL: [Job; 8] = [
+    Job {
+        work: Work::Visits,
+        words: "look, enter and leave",
+        unit: Unit::Nanoseconds,
+        rounds: 101,
+        often: 20_000,
+        threads: 1,
+        mask: ALL_BITS,
+    },
+    Job {
+        work: Work::Few,
+        words: "read a word of eight",
+        unit: Unit::Nanoseconds,
+        rounds: 101,
+        often: 100_000,
+        threads: 1,
+        mask: 7,
+    },
+    Job {
+        work: Work::Many,
+        words: "read a word of all",
+        unit: Unit::Nanoseconds,
+        rounds: 101,
+        often: 10_000,
+        threads: 1,
+        mask: ALL_BITS,
+    },
+    Job {
+        work: Work::Turns,
+        words: "lay, publish and poll",
+        unit: Unit::Nanoseconds,
+        rounds: 101,
+        often: 10_000,
+        threads: 1,
+        mask: ALL_BITS,
+    },
+    Job {
+        work: Work::Polls,
+        words: "poll a held root",
+        unit: Unit::Nanoseconds,
+        rounds: 101,
+        often: 200_000,
+        threads: 1,
+        mask: ALL_BITS,
+    },
+    Job {
+        work: Work::One,
+        words: "entries by 1 thread",
+        unit: Unit::Rate,
+        rounds: 21,
+        often: 100_000,
+        threads: 1,
+        mask: ALL_BITS,
+    },
+    Job {
+        work: Work::Two,
+        words: "entries by 2 threads",
+        unit: Unit::Rate,
+        rounds: 21,
+        often: 100_000,
+        threads: 2,
+        mask: ALL_BITS,
+    },
+    Job {
+        work: Work::Four,
+        words: "entries by 4 threads",
+        unit: Unit::Rate,
+        rounds: 21,
+        often: 100_000,
+        threads: 4,
+        mask: ALL_BITS,
+    },
+];
 
 /// Does it so often in a store. Answers how often it was done, or what the words that were read sum up to.
 pub fn in_store<R: Threads + Sync>(
@@ -110,12 +135,12 @@ pub fn in_store<R: Threads + Sync>(
     count: u32,
 ) -> u64 {
     match work {
-        Work::Visits | Work::One => u64::from(stage.readers.visit_by_one(count)),
-        Work::Few | Work::Many => stage.readers.read(addresses, count),
+        Work::Visits | Work::One => u64::from(stage.readers.one.one.visit(count)),
+        Work::Few | Work::Many => stage.readers.one.one.read(addresses, count),
         Work::Turns => u64::from(stage.turner.turn_many(count)),
-        Work::Polls => u64::from(stage.readers.hold(&mut stage.turner, count)),
-        Work::Two => u64::from(stage.readers.visit_by_two(rt, count)),
-        Work::Four => u64::from(stage.readers.visit_by_four(rt, count)),
+        Work::Polls => u64::from(stage.readers.one.one.hold(&mut stage.turner, count)),
+        Work::Two => u64::from(visit_by_two(rt, &mut stage.readers.one, count)),
+        Work::Four => u64::from(visit_by_four(rt, &mut stage.readers, count)),
     }
 }
 
@@ -132,7 +157,7 @@ pub fn in_plain<R: Threads + Sync>(
         Work::Few | Work::Many => plain::read_many(words, addresses, count),
         Work::Turns => u64::from(plain::turn_many(words, count)),
         Work::Polls => u64::from(plain::poll_many(words, count)),
-        Work::Two => u64::from(plain_readers::visit_by_two(rt, words, count)),
-        Work::Four => u64::from(plain_readers::visit_by_four(rt, words, count)),
+        Work::Two => u64::from(visit_by_two(rt, &mut two(words), count)),
+        Work::Four => u64::from(visit_by_four(rt, &mut four(words), count)),
     }
 }
