@@ -11,3 +11,4 @@ pub mod PerformedOutcome
 pub mod KnownNumbers
 pub mod NamedOutcome
 pub mod Endings
+pub mod Tallying

@@ -1,6 +1,6 @@
 -- To be read first, in this order: a log, its shape for a script, its versions, its edits, the lines of each caller, its
 -- calls, and so what an outcome is; the words and the text of a log, what a sink took of it, and what it tells of the log;
--- then how a run ends.
+-- its summary; then how a run ends.
 pub mod Log
 pub mod LogShape
 pub mod Versions
@@ -12,6 +12,7 @@ pub mod Text
 pub mod Printed
 pub mod Shape
 pub mod TextLaws
+pub mod Summary
 pub mod Status
 pub mod FaultText
 pub mod Run
@@ -19,10 +20,12 @@ pub mod Ending
 -- Worked examples.
 pub mod OutcomeExamples
 pub mod TextExamples
+pub mod SummaryExamples
 -- How it is made: no clause of a public call speaks of these.
 pub mod Performing
 pub mod LogWord
 pub mod Putting
+pub mod Tallying
 -- A kind of table that covers no query, for tables that are named and not built.
 pub mod Untabled
 pub mod UntabledLaws

@@ -15,7 +15,7 @@ pub use dt_words::{ArgWords, Command, Limits, Table, WordsFault, read_words};
 pub use laws::{logs_are_determined_by_their_texts, outcomes_are_named};
 pub use log::{CallLine, EditLine, Log, PartLog, PhaseLog, Stamped};
 pub use perform::perform_script;
-pub use print::print_log;
+pub use print::{print_log, print_summary};
 pub use running::{Ran, run};
 pub use status::Status;
 pub use turnstile::{OpenTurnstile, Turnstile};

@@ -124,6 +124,20 @@ impl NameBook {
         self.selectors.text(u32::from(selector.number()))
     }
 
+    /// How many classes have a name.
+    pub fn class_count(&self) -> u32
+        ensures { result ≡ length self.now.classes }
+    {
+        self.classes.len()
+    }
+
+    /// How many selectors have a name.
+    pub fn selector_count(&self) -> u32
+        ensures { result ≡ length self.now.selectors }
+    {
+        self.selectors.len()
+    }
+
     // The name of the selector with this number, which may be any.
     pub(crate) fn selector_text(&self, selector: u16) -> Option<&[u8]>
         ensures { option_copied result ≡ slice_get self.now.selectors selector }

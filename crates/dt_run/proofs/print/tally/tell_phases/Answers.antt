@@ -1,0 +1,6 @@
+use Rattle.dt_run.proofs.Tallying.{one_more}
+use Rattle.dt_run.specs.Summary.{told_in}
+use Rattle.dt_run.proofs.print.tally.tell_phases.Goals as goal
+
+pub loop-phase-preserved : goal.loop-phase-preserved
+loop-phase-preserved c = one_more (told_in c.args.told) c.args.phases.now c.loop-phase.phase-index _ _ 0 _ _ c.loop-phase-test.true c.phase-item.is c.loop-phase.invariant c.tell_phase-count.ensures
