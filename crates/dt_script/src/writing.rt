@@ -1,4 +1,4 @@
-ghost use Rattle.std.specs.Prelude.{◌≡◌, ◌++◌, ◌∷◌, [], ℕ, List, OnOk, map, flat_map, decimal, codes};
+ghost use Rattle.std.specs.Prelude.{◌≡◌, ◌++◌, ◌∷◌, [], ℕ, List, OnOk, OnErr, map, flat_map, decimal, codes};
 ghost use Rattle.dt_script.specs.Word.{Class, Selector, Body};
 ghost use Rattle.dt_script.specs.Writing.{IsNamed, IsSpelling, word_text, line_text};
 
@@ -8,16 +8,21 @@ use dt_definitions::{Arity, BodyNo, ClassNo, NoMemory, SelNo};
 use itoa::Buffer;
 
 /// Puts the one spelling of the line at the end of the text, without a line feed. Each number of the line has a name. Of a
-/// caller whose number isn't from 1 to 256 [`read_line`](crate::read_line) reads no line.
+/// caller whose number isn't from 1 to 256 [`read_line`](crate::read_line) reads no line. It takes memory: the line's own
+/// text first, so that no part of a line is ever put.
 ///
 /// # Errors
 ///
-/// [`NoMemory`] where no memory was found; the text may have grown by a part of the line.
+/// [`NoMemory`] where no memory was found; the text is as it was.
 pub fn write_line(line: &Line, names: &NameBook, out: &mut Vec<u8>) -> Result<(), NoMemory>
     requires { IsNamed names.now line.now }
-    ensures { OnOk result ((text : List ℕ) × IsSpelling names.now line.now text × (out.new.items ≡ out.old.items ++ text)) }
+    ensures ok { OnOk result ((text : List ℕ) × IsSpelling names.now line.now text × (out.new.items ≡ out.old.items ++ text)) }
+    ensures err { OnErr result (out.new.items ≡ out.old.items) }
 {
-    push_line(out, names, line)
+    let mut text = Vec::new(*out.allocator());
+    push_line(&mut text, names, line)?;
+    out.extend_from_slice(&text)?;
+    Ok(())
 }
 
 // Puts the words of the line at the end of the text, with one space between two.
