@@ -1,4 +1,4 @@
-ghost use Rattle.std.specs.Prelude.{◌≡◌, ◌↔◌, ◌<◌, IsTrue, IfOk, OnOk, OnErr, IsErrOf, is_none, nat_le, ◌&&◌, length, slice_get};
+ghost use Rattle.std.specs.Prelude.{◌≡◌, ◌↔◌, ◌<◌, IsTrue, IfOk, OnOk, OnErr, IsErrOf, is_none, nat_le, ◌&&◌, length, slice_get, Some};
 ghost use Rattle.std.specs.Option.{option_copied};
 ghost use Rattle.dt_selectors.specs.Names.{is_name, position_of};
 ghost use Rattle.dt_script.specs.Growth.{GrewAtEnd};
@@ -61,6 +61,7 @@ impl NameBook {
         requires { IsTrue (is_name name.now) }
         ensures ok { OnOk result (self.new ≡ with_class_name self.old name.now) }
         ensures number { IfOk result (λ class. class ≡ number_in self.new.classes name.now) }
+        ensures stored { IfOk result (λ class. slice_get self.new.classes class ≡ Some name.now) }
         ensures full { IsErrOf result NameFault.NamesFull
             ↔ IsTrue (is_none (position_of name.now self.old.classes) && nat_le CLASSES (length self.old.classes)) }
         ensures err { OnErr result (self.new ≡ self.old) }
@@ -81,6 +82,7 @@ impl NameBook {
         requires { IsTrue (is_name name.now) }
         ensures ok { OnOk result (self.new ≡ with_selector_name self.old name.now) }
         ensures number { IfOk result (λ selector. selector ≡ number_in self.new.selectors name.now) }
+        ensures stored { IfOk result (λ selector. slice_get self.new.selectors selector ≡ Some name.now) }
         ensures full { IsErrOf result NameFault.NamesFull
             ↔ IsTrue (is_none (position_of name.now self.old.selectors) && nat_le SELECTORS (length self.old.selectors)) }
         ensures err { OnErr result (self.new ≡ self.old) }
@@ -101,6 +103,7 @@ impl NameBook {
         requires { IsTrue (is_name name.now) }
         ensures ok { OnOk result (self.new ≡ with_body_name self.old name.now) }
         ensures number { IfOk result (λ body. body ≡ number_in self.new.bodies name.now) }
+        ensures stored { IfOk result (λ body. slice_get self.new.bodies body ≡ Some name.now) }
         ensures full { IsErrOf result NameFault.NamesFull
             ↔ IsTrue (is_none (position_of name.now self.old.bodies) && nat_le BODIES (length self.old.bodies)) }
         ensures err { OnErr result (self.new ≡ self.old) }
