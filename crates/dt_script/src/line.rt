@@ -1,3 +1,6 @@
+ghost use Rattle.std.specs.Prelude.{◌≢◌, ℕ, IsTrue};
+ghost use Rattle.dt_script.specs.Line.{is_in_range, is_short};
+
 use dt_definitions::{Arity, BodyNo, ClassNo, Parents, SelNo, Tuple};
 use dt_scratch::Query;
 
@@ -82,6 +85,32 @@ pub enum Line {
     Unpin,
     /// `end`: the last line of a script.
     End,
+}
+
+impl Line {
+    /// What holds of every line: its numbers that are no names have at most 16 bits, and are in range but for a caller's,
+    /// which may be any. It does nothing: a caller whose reasoning needs this calls it.
+    pub fn law(&self)
+        ensures short { IsTrue (is_short self.now) }
+        ensures in_range { ((caller : ℕ) → self.now ≢ Line.Caller caller) → IsTrue (is_in_range self.now) }
+    {
+        match self {
+            Line::AddSelector { arity, .. } => {
+                let _ = arity.number();
+            }
+            Line::Define { classes, .. } => {
+                let _ = classes.arity();
+            }
+            Line::Undefine { classes, .. } => {
+                let _ = classes.arity();
+            }
+            Line::Caller { caller } => {
+                let _caller = *caller;
+            }
+            Line::Call { query } => query.law(),
+            _ => {}
+        }
+    }
 }
 
 /// A line of a caller.
