@@ -16,6 +16,7 @@ pub mod SpellingLaws
 pub mod CallerBits
 pub mod InTurn
 pub mod NamedScript
+pub mod NamedCalls
 pub mod OneAnswer
 pub mod Built
 pub mod SamePlace

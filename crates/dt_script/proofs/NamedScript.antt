@@ -10,7 +10,7 @@ use Rattle.dt_definitions.specs.declared.edit.Edit.{Edit}
 use Rattle.dt_script.specs.NameBook.{NameBook}
 use Rattle.dt_script.specs.Word.{Word, Plain, Number, Class, Selector, Body, AreTexts, with_word, book_after}
 use Rattle.dt_script.specs.Line.{words_of}
-use Rattle.dt_script.specs.Named.{has_text, is_edit_named, HasNames}
+use Rattle.dt_script.specs.Named.{has_text, is_line_named, is_edit_named, HasNames}
 use Rattle.dt_script.specs.Script.{Script, Phase as PhaseOf, edit_of, with_edit, batches_from, is_phase, phase_of}
 use Rattle.dt_script.specs.ScriptOf.{WereRead, IsScriptOf}
 use Rattle.dt_script.specs.declared.line.Line.{Line}
@@ -63,13 +63,13 @@ text_stays old new (Body number) grew has = there_still old.bodies new.bodies nu
 
 -- ---- lines that were read are named
 
-All-reverse : {X : Type 0} (P : X → Type 0) (xs : List X) → All P xs → All P (reverse xs)
+pub All-reverse : {X : Type 0} (P : X → Type 0) (xs : List X) → All P xs → All P (reverse xs)
 All-reverse P xs all i d within =
     let inside : i < length xs = omega (arith, within, length-reverse xs) in
     subst P (sym (get_or-reverse xs i d inside)) (all (length xs - 1 - i) d (omega (arith, inside)))
 
-abbrev NamedLine : NameBook → Line → Type 0
-NamedLine book line = IsTrue (list_all (has_text book) (words_of line))
+abbrev pub NamedLine : NameBook → Line → Type 0
+NamedLine book line = IsTrue (is_line_named book line)
 
 words_stay : (old new : NameBook) (words : List Word) → Grew old new → IsTrue (list_all (has_text old) words) → IsTrue (list_all (has_text new) words)
 words_stay old new [] grew named = refl
@@ -82,7 +82,7 @@ texts_name book [] texts are = refl
 texts_name book (word ∷ words) [] are = absurd are
 texts_name book (word ∷ words) (text ∷ texts) are = and_from _ _ (ap is_some are.0) (texts_name book words texts are.1)
 
-read_named : (readers : ℕ) (texts : List (List ℕ)) (book : NameBook) (past : List Line) → WereRead readers texts book past → All (NamedLine book) past
+pub read_named : (readers : ℕ) (texts : List (List ℕ)) (book : NameBook) (past : List Line) → WereRead readers texts book past → All (NamedLine book) past
 read_named readers [] book past were = subst (All (NamedLine book)) (sym were.1) (All-cons (NamedLine book) Header [] refl (All-nil (NamedLine book)))
 read_named readers (text ∷ texts) book past were = ⊎_elim
     (λ silent. read_named readers texts book past silent.1)
@@ -160,7 +160,7 @@ module _ (book : NameBook) where
         | End ↦ λ h. h
       ] one
 
-  split_named : (lines : List Line) → All (NamedLine book) lines → All (All (NamedLine book)) (slice_split is_phase lines)
+  pub split_named : (lines : List Line) → All (NamedLine book) lines → All (All (NamedLine book)) (slice_split is_phase lines)
   split_named [] all = All-cons (All (NamedLine book)) [] [] (All-nil (NamedLine book)) (All-nil (All (NamedLine book)))
   split_named (line ∷ lines) all =
       let rest = split_named lines (All-tail (NamedLine book) line lines all) in
