@@ -20,6 +20,7 @@ pub mod Laws
 pub mod OneAnswer
 -- Worked examples.
 pub mod LineExamples
+pub mod LanguageExamples
 pub mod PlaceExamples
 pub mod ScriptExamples
 pub mod ScriptOfExamples

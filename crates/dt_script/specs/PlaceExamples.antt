@@ -35,6 +35,12 @@ no_batch_in_a_batch = refl
 commit_in_a_batch : may_stand 8 (DropClass 0 ∷ Begin ∷ Header ∷ []) Commit ≡ true
 commit_in_a_batch = refl
 
+batch_of_no_edit : may_stand 8 (Begin ∷ Header ∷ []) Commit ≡ true
+batch_of_no_edit = refl
+
+second_batch : may_stand 8 (Commit ∷ Begin ∷ Header ∷ []) Begin ≡ true
+second_batch = refl
+
 no_commit_outside : may_stand 8 (Commit ∷ Begin ∷ Header ∷ []) Commit ≡ false
 no_commit_outside = refl
 
@@ -58,6 +64,14 @@ no_batch_after_a_call = refl
 edit_in_the_next_phase : may_stand 8 (Phase ∷ one_call ∷ Caller 1 ∷ Header ∷ []) (DropClass 0) ≡ true
 edit_in_the_next_phase = refl
 
+-- ---- phases
+
+phase_at_the_beginning : may_stand 8 (Header ∷ []) Phase ≡ true
+phase_at_the_beginning = refl
+
+phase_after_calls : may_stand 8 (one_call ∷ Caller 1 ∷ Header ∷ []) Phase ≡ true
+phase_after_calls = refl
+
 -- ---- callers and calls
 
 last_reader : may_stand 8 (Header ∷ []) (Caller 8) ≡ true
@@ -80,6 +94,9 @@ no_call_of_the_phase_before = refl
 
 call_after_another : may_stand 8 (one_call ∷ Caller 1 ∷ Header ∷ []) one_call ≡ true
 call_after_another = refl
+
+call_after_a_pin : may_stand 8 (Pin ∷ Caller 1 ∷ Header ∷ []) one_call ≡ true
+call_after_a_pin = refl
 
 -- ---- pins
 
