@@ -19,6 +19,8 @@ pub mod Run
 pub mod Ending
 -- Worked examples.
 pub mod OutcomeExamples
+pub mod RunExamples
+pub mod EndingExamples
 pub mod TextExamples
 pub mod SummaryExamples
 -- How it is made: no clause of a public call speaks of these.
