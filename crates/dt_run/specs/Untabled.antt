@@ -1,9 +1,7 @@
 -- A kind of table that covers no query: whatever stands in its place is looked up from scratch.
-use Rattle.std.specs.Prelude.{◌≡◌, ℕ, false, List}
-use Rattle.dt_pages.specs.Reading.{Reading}
+use Rattle.std.specs.Prelude.{◌≡◌, false}
 use Rattle.dt_scratch.specs.Query.{Query}
 use Rattle.dt_scratch.specs.declared.reply.Answer.TheVariants.{NotUnderstood}
-use Rattle.dt_scratch.specs.declared.reply.Change.{Change}
 use Rattle.dt_cells.specs.Held.{Held, none_held}
 use Rattle.dt_cells.specs.Kind.{Kind}
 

@@ -1,11 +1,9 @@
 -- The kind that covers no query is lawful, and its value stands where nothing is held.
-use Rattle.std.proofs.Common.{◌≡◌, ◌≤◌, ℕ, true, false, List, [], ◌∷◌, refl, sym, arith, All}
+use Rattle.std.proofs.Common.{◌≤◌, ℕ, false, List, [], ◌∷◌, refl, sym, arith, All}
 use Rattle.std.proofs.lemmas.Bool.{true≢false}
 use Rattle.std.proofs.lemmas.List.Elements.{All-head}
-use Rattle.dt_pages.specs.Reading.{Reading}
-use Rattle.dt_scratch.specs.Query.{Query, arity_of_query}
 use Rattle.dt_scratch.specs.declared.reply.Change.{Change}
-use Rattle.dt_cells.specs.Held.{Held, IsHeld, held_after, IsStageable, IsStageableChange}
+use Rattle.dt_cells.specs.Held.{Held, held_after, IsStageableChange}
 use Rattle.dt_cells.specs.Kind.{IsLawful}
 use Rattle.dt_cells.specs.Standing.{IsStanding}
 use Rattle.dt_run.specs.Untabled.{HoldsNone, untabled}
