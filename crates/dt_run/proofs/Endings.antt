@@ -59,7 +59,7 @@ ends_performed readers bytes ReadFault handed old new calm read performed = absu
 pub ends_fault : (readers : ℕ) (told : ScriptFault) (handed : Option Log) (old new : Outside) → IsFaultCounted (Err told) old.read_faults new.read_faults
     → IsFaultOfSource readers old.left new.left told → EndsWith handed old new (fault_text told)
     → Ending readers (status_of told) handed old new
-ends_fault readers fault.ReadFault handed old new counted is ends = (counted, ends)
+ends_fault readers fault.ReadFault handed old new counted is ends = (counted, is, ends)
 ends_fault readers fault.NoMemory handed old new counted is ends = (counted, ends)
 ends_fault readers fault.TooLong handed old new counted is ends = (counted, (fault.TooLong, refl, is, ends))
 ends_fault readers fault.NoHeader handed old new counted is ends = (counted, (fault.NoHeader, refl, is, ends))

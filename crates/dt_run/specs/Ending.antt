@@ -1,8 +1,10 @@
 -- How a run ends: what each status says of the words, of the bytes that were read, of what the sink took, and of the log.
 use Rattle.std.specs.Prelude.{◌≡◌, ℕ, List, Option, None, Some, ◌⊎◌, option_and_then}
 use Rattle.dt_outside.specs.Faults.{one_fault_more}
+use Rattle.dt_outside.specs.Losing.{LosesAtMost}
 use Rattle.dt_outside.specs.Putting.{Told}
 use Rattle.dt_script.specs.ReadScript.{WasRead, IsFaultOfSource}
+use Rattle.dt_script.specs.declared.limits.TheConstants.{SCRIPT_BYTES}
 use Rattle.dt_script.specs.declared.script_fault.ScriptFault.{ScriptFault}
 use Rattle.dt_script.specs.declared.script_fault.ScriptFault.TheVariants as fault
 use Rattle.dt_words.specs.Performed.{performed_of}
@@ -62,7 +64,7 @@ Ending readers Script handed old new = NoReadFailed old new
     × ((told : ScriptFault) × (status_of told ≡ Script) × IsFaultOfSource readers old.left new.left told
     × EndsWith handed old new (fault_text told))
 Ending readers ReadFault handed old new = (new.read_faults ≡ one_fault_more old.read_faults)
-    × EndsWith handed old new (fault_text fault.ReadFault)
+    × LosesAtMost SCRIPT_BYTES old.left new.left × EndsWith handed old new (fault_text fault.ReadFault)
 Ending readers WriteFault handed old new = NoReadFailed old new × (new.put_faults ≡ one_fault_more old.put_faults)
     × ((bytes : List ℕ) × WasRead old.left new.left bytes × IsCutShort readers bytes old.taken new.taken handed)
 Ending readers NoMemory handed old new = NoReadFailed old new × EndsWith handed old new (fault_text fault.NoMemory)

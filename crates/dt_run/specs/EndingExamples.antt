@@ -66,7 +66,7 @@ no_header = (8, refl, (refl, (fault.NoHeader, refl, ([], read_whole [] (lit≤ t
 
 -- the source failed after the first line
 read_fault : RunEnding run ReadFault None (before smallest) (after (codes "end\n") 3 (codes "fault read\n") 3)
-read_fault = (8, refl, (refl, told (codes "end\n") (codes "fault read\n")))
+read_fault = (8, refl, (refl, (codes "dispatch 1\n", lit≤ tt, refl), told (codes "end\n") (codes "fault read\n")))
 
 -- memory may be wanted where nothing was read
 no_memory : RunEnding [] NoMemory None (before smallest) (after smallest 2 (codes "fault memory\n") 3)
@@ -139,9 +139,13 @@ usage_of_a_command (asked, unread, calm, ends) = absurd cc
 usage_after_reading : RunEnding (codes "run" ∷ []) Usage None (before smallest) (after [] 2 usage_text 3) → ⊥
 usage_after_reading (asked, unread, calm, ends) = absurd cc
 
--- a read fault is counted once, and a put fault while a log is printed too
+-- a read fault is counted, and a put fault while a log is printed too
 read_fault_without_one : RunEnding run ReadFault None (before smallest) (after [] 2 (codes "fault read\n") 3) → ⊥
-read_fault_without_one (readers, asked, (counted, ends)) = absurd cc
+read_fault_without_one (readers, asked, (counted, few, ends)) = absurd cc
+
+-- nor does one come after a byte more than a script may have
+read_fault_past_the_last : (bytes : List ℕ) → length bytes ≡ 16777217 → RunEnding run ReadFault None (before bytes) (after [] 3 (codes "fault read\n") 3) → ⊥
+read_fault_past_the_last bytes long (readers, asked, (counted, (lost, few, split), ends)) = omega (arith, long, few, ap length split, length-append lost [])
 
 write_fault_without_one : RunEnding run WriteFault (Some (log 0)) (before smallest) (after [] 2 (codes "phase 1") 3) → ⊥
 write_fault_without_one (readers, asked, (calm, counted, cut)) = absurd cc

@@ -187,7 +187,8 @@ fn run_by<S: Source, K: Sink, T: Turnstile>(
 /// The status tells how it ended. [`Status::Done`]: the bytes are a script for as many readers as the words say, the log
 /// is an outcome of it, and the sink took its text. [`Status::Usage`]: exactly where the words ask for no run and memory
 /// was found to read them; the source wasn't read. [`Status::Script`]: the source gave more bytes than a script may have,
-/// or its bytes to the end have a fault, which is told. [`Status::ReadFault`]: the source failed.
+/// or its bytes to the end have a fault, which is told. [`Status::ReadFault`]: the source failed, and had given no more
+/// bytes than a script may have.
 /// [`Status::WriteFault`]: the sink failed while the log was printed, and took a prefix of its text.
 /// [`Status::NoMemory`]: memory was wanted. Where the status is another than done or a write fault, the sink took the
 /// text of the fault or the usage text, or a prefix of it where the sink failed. It starts no thread.
