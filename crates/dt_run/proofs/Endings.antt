@@ -185,6 +185,12 @@ words_ask_once words a b first second = inside (sym first ∙ second) where
   inside : Some a ≡ Some b → a ≡ b
   inside same = cc
 
+-- words that ask for a run don't ask for none
+pub asks_or_not : {P : Type 0} (words : List (List ℕ)) (readers : ℕ) → readers_of words ≡ Some readers → readers_of words ≡ None → P
+asks_or_not words readers asked none = absurd (inside (sym asked ∙ none)) where
+  inside : Some readers ≡ None → ⊥
+  inside same = absurd cc
+
 -- a source that wasn't read lost nothing
 pub loses_none : (limit : ℕ) (left : Option (List ℕ)) → LosesAtMost limit left left
 loses_none limit None = tt

@@ -210,9 +210,9 @@ pub fn run<H: Threads + Sync, S: Source, K: Sink, T: Turnstile>(
         (outside (S.left source.old) (S.faults source.old) (K.taken sink.old) (K.faults sink.old))
         (outside (S.left source.new) (S.faults source.new) (K.taken sink.new) (K.faults sink.new)) }
 
-    // The words decide whether there is a command.
+    // The words decide whether there is a run; where there is none, nothing is read.
     ensures usage { readers_of words.now ≡ None → (result.status ≡ Status.Usage) ⊎ (result.status ≡ Status.NoMemory) }
-    ensures usage_unread { result.status ≡ Status.Usage → source.new ≡ source.old }
+    ensures unread { readers_of words.now ≡ None → source.new ≡ source.old }
 
     // A fault of a script is always found, and a script is always performed, unless the outside fails or memory is
     // wanted.

@@ -1,7 +1,12 @@
 use Rattle.std.proofs.Common.{subst}
 use Rattle.dt_run.specs.Ending.{Outside, outside, Ending}
-use Rattle.dt_run.proofs.Endings.{words_ask, words_ask_once, always_script, always_done, loses_none}
+use Rattle.dt_run.proofs.Endings.{words_ask, words_ask_once, asks_or_not, always_script, always_done, loses_none}
 use Rattle.dt_run.proofs.running.run.Goals as goal
+
+pub returns-in-Ok-Run-clause-unread : goal.returns-in-Ok-Run-clause-unread
+returns-in-Ok-Run-clause-unread g c = λ none.
+    let own = words_ask c.args.words.now c.in-Ok-Run.field-0 c.in-Ok-Run.table c.in-Ok-Run.limits c.readers.result c.in-Ok-Run.ensures.command c.in-Ok-Run.field-0-is c.readers.ensures.value in
+    asks_or_not c.args.words.now c.readers.result own none
 
 pub returns-in-Ok-Run-clause-script_always : goal.returns-in-Ok-Run-clause-script_always
 returns-in-Ok-Run-clause-script_always g c = λ readers asked calm.
