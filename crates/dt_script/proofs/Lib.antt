@@ -23,3 +23,7 @@ pub mod SamePlace
 pub mod LinesRead
 pub mod LinesCut
 pub mod OnlyAnswer
+pub mod Drawing
+pub mod GeneratedSpelling
+pub mod WrittenInTurn
+pub mod GeneratedKept

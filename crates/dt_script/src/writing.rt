@@ -57,7 +57,7 @@ fn push_line(text: &mut Vec<u8>, names: &NameBook, line: &Line) -> Result<(), No
 }
 
 // Puts bytes at the end of the text.
-fn push(text: &mut Vec<u8>, bytes: &[u8]) -> Result<(), NoMemory>
+pub(crate) fn push(text: &mut Vec<u8>, bytes: &[u8]) -> Result<(), NoMemory>
     ensures { OnOk result (text.new.items ≡ text.old.items ++ bytes.now) }
 {
     text.extend_from_slice(bytes)?;
@@ -74,7 +74,7 @@ fn push_word(text: &mut Vec<u8>, word: &[u8]) -> Result<(), NoMemory>
 }
 
 // Puts a number behind a space at the end of the text.
-fn push_number(text: &mut Vec<u8>, number: u16) -> Result<(), NoMemory>
+pub(crate) fn push_number(text: &mut Vec<u8>, number: u16) -> Result<(), NoMemory>
     ensures { OnOk result (text.new.items ≡ text.old.items ++ 32 ∷ decimal number) }
 {
     let mut buffer = Buffer::new();

@@ -1,0 +1,198 @@
+-- The lines of the script that is generated from a number, a number of classes and a number of selectors. Each draw is
+-- made where its line is written, from left to right: beside the lines of each part stands the state that they leave.
+use Rattle.std.specs.Prelude.{◌==◌, ℕ, ◌+◌, ◌-◌, ◌*◌, ◌%◌, ◌||◌, zero, suc, if◌then◌else◌, List, [], ◌∷◌, ◌++◌, Bool}
+use Rattle.dt_script.specs.Draw.{next_state, drawn, after_draws, state_after}
+use Rattle.dt_script.specs.declared.line.Line.{Line}
+use Rattle.dt_script.specs.declared.line.Line.TheVariants.{Header, AddClass, Link, Unlink, AddSelector, Define, Undefine, Begin, Commit, Phase, Caller, Call, End}
+
+-- the lines of so many things, the first of which has this number, each written at the state that the one before it left
+unfoldable pub lines_in_turn : (ℕ → ℕ → List Line) → (ℕ → ℕ → ℕ) → ℕ → ℕ → ℕ → List Line
+lines_in_turn lines leaves state number zero = []
+lines_in_turn lines leaves state number (suc more) =
+    lines state number ++ lines_in_turn lines leaves (leaves state number) (number + 1) more
+
+-- ---- classes: one batch
+
+-- a second parent below the class, where it is another than the first
+abbrev pub second_parent : ℕ → ℕ → ℕ → List ℕ
+second_parent state class first = if drawn state class == first then [] else drawn state class ∷ []
+
+-- the parents of a class: a class before it, and in one of four cases a second one that is drawn among them
+abbrev pub parents_drawn : ℕ → ℕ → List ℕ
+parents_drawn state zero = []
+parents_drawn state class =
+    drawn state class ∷ (if drawn (next_state state) 4 == 0
+    then second_parent (next_state (next_state state)) class (drawn state class)
+    else [])
+
+abbrev pub after_parents : ℕ → ℕ → ℕ
+after_parents state zero = state
+after_parents state class =
+    if drawn (next_state state) 4 == 0
+    then next_state (next_state (next_state state))
+    else next_state (next_state state)
+
+abbrev pub class_line : ℕ → ℕ → List Line
+class_line state class = AddClass class (parents_drawn state class) ∷ []
+
+abbrev pub class_lines : ℕ → ℕ → List Line
+class_lines state classes = Begin ∷ lines_in_turn class_line after_parents state 0 classes ++ Commit ∷ []
+
+abbrev pub after_classes : ℕ → ℕ → ℕ
+after_classes state classes = state_after after_parents state 0 classes
+
+-- ---- selectors: one batch
+
+-- every fiftieth selector takes two arguments, all others take one
+abbrev pub arity_of_number : ℕ → ℕ
+arity_of_number selector = if selector % 50 == 49 then 2 else 1
+
+abbrev pub selector_line : ℕ → ℕ → List Line
+selector_line state selector = AddSelector selector (arity_of_number selector) ∷ []
+
+-- nothing is drawn
+abbrev pub after_selector : ℕ → ℕ → ℕ
+after_selector state selector = state
+
+abbrev pub selector_lines : ℕ → List Line
+selector_lines selectors = Begin ∷ lines_in_turn selector_line after_selector 0 0 selectors ++ Commit ∷ []
+
+-- ---- definitions: batches of 500, the last of which may be shorter
+
+-- how many definitions there are, some of which replace earlier ones
+abbrev pub definition_count : ℕ → ℕ
+definition_count selectors = 3 * selectors
+
+-- how many definitions a batch has, but for the last batch
+abbrev pub batch_size : ℕ
+batch_size = 500
+
+-- whether a definition is the first of its batch, and whether it is the last
+abbrev pub is_first_of_batch : ℕ → Bool
+is_first_of_batch number = number % batch_size == 0
+
+abbrev pub is_last_of_batch : ℕ → ℕ → Bool
+is_last_of_batch selectors number = is_first_of_batch (number + 1) || number + 1 == definition_count selectors
+
+-- a class for each of so many places
+abbrev pub classes_drawn : ℕ → ℕ → ℕ → List ℕ
+classes_drawn classes state zero = []
+classes_drawn classes state (suc places) = drawn state classes ∷ classes_drawn classes (next_state state) places
+
+-- the definition of this number is of the selectors in turn
+abbrev pub selector_of : ℕ → ℕ → ℕ
+selector_of selectors number = number % selectors
+
+-- at classes that are drawn
+abbrev pub tuple_of : ℕ → ℕ → ℕ → ℕ → List ℕ
+tuple_of classes selectors state number = classes_drawn classes state (arity_of_number (selector_of selectors number))
+
+abbrev pub after_definition : ℕ → ℕ → ℕ → ℕ
+after_definition selectors state number = after_draws state (arity_of_number (selector_of selectors number))
+
+-- by the body of its number
+abbrev pub definition_line : ℕ → ℕ → ℕ → ℕ → List Line
+definition_line classes selectors state number =
+    (if is_first_of_batch number then Begin ∷ [] else [])
+    ++ Define (selector_of selectors number) (tuple_of classes selectors state number) number ∷ []
+    ++ (if is_last_of_batch selectors number then Commit ∷ [] else [])
+
+abbrev pub definition_lines : ℕ → ℕ → ℕ → List Line
+definition_lines classes selectors state =
+    lines_in_turn (definition_line classes selectors) (after_definition selectors) state 0 (definition_count selectors)
+
+-- ---- callers: a phase of four, each with 2,500 calls
+
+abbrev pub callers : ℕ
+callers = 4
+
+abbrev pub calls_of_caller : ℕ
+calls_of_caller = 2500
+
+-- any selector, at any classes
+abbrev pub call_line : ℕ → ℕ → ℕ → ℕ → List Line
+call_line classes selectors state number = Call (record {
+  selector = drawn state selectors;
+  classes = classes_drawn classes (next_state state) (arity_of_number (drawn state selectors));
+}) ∷ []
+
+abbrev pub after_call : ℕ → ℕ → ℕ → ℕ
+after_call selectors state number = after_draws (next_state state) (arity_of_number (drawn state selectors))
+
+abbrev pub caller_lines : ℕ → ℕ → ℕ → ℕ → List Line
+caller_lines classes selectors state caller =
+    Caller caller ∷ lines_in_turn (call_line classes selectors) (after_call selectors) state 0 calls_of_caller
+
+abbrev pub after_caller : ℕ → ℕ → ℕ → ℕ
+after_caller selectors state caller = state_after (after_call selectors) state 0 calls_of_caller
+
+abbrev pub calling_lines : ℕ → ℕ → ℕ → List Line
+calling_lines classes selectors state =
+    Phase ∷ lines_in_turn (caller_lines classes selectors) (after_caller selectors) state 1 callers
+
+abbrev pub after_callers : ℕ → ℕ → ℕ
+after_callers selectors state = state_after (after_caller selectors) state 1 callers
+
+-- ---- edits: a phase of 200, each a batch of its own, of four kinds in turn
+
+abbrev pub edits : ℕ
+edits = 200
+
+-- the first parent of a class, as it was drawn from the script's number
+abbrev pub first_parent : ℕ → ℕ → ℕ
+first_parent number class = drawn (state_after after_parents number 0 class) class
+
+-- the classes of a definition, as they were drawn from the state before the first one
+abbrev pub tuple_at : ℕ → ℕ → ℕ → ℕ → List ℕ
+tuple_at classes selectors start definition =
+    tuple_of classes selectors (state_after (after_definition selectors) start 0 definition) definition
+
+-- a definition goes, whether or not it stands
+abbrev pub undefine_line : ℕ → ℕ → ℕ → ℕ → Line
+undefine_line number classes selectors definition =
+    Undefine (selector_of selectors definition) (tuple_at classes selectors (after_classes number classes) definition)
+
+-- a definition comes again
+abbrev pub define_line : ℕ → ℕ → ℕ → ℕ → Line
+define_line number classes selectors definition =
+    Define (selector_of selectors definition) (tuple_at classes selectors (after_classes number classes) definition) definition
+
+-- any class but the first
+abbrev pub class_drawn : ℕ → ℕ → ℕ
+class_drawn classes state = 1 + drawn state (classes - 1)
+
+abbrev pub edit_line : ℕ → ℕ → ℕ → ℕ → ℕ → List Line
+edit_line number classes selectors state edit =
+    (if edit % 4 == 0 then undefine_line number classes selectors (drawn state (definition_count selectors))
+    else if edit % 4 == 1 then define_line number classes selectors (drawn state (definition_count selectors))
+    else if edit % 4 == 2 then Link (class_drawn classes state) (drawn (next_state state) (class_drawn classes state))
+    else Unlink (class_drawn classes state) (first_parent number (class_drawn classes state))) ∷ []
+
+abbrev pub after_edit : ℕ → ℕ → ℕ
+after_edit state edit = if edit % 4 == 2 then next_state (next_state state) else next_state state
+
+abbrev pub edit_lines : ℕ → ℕ → ℕ → ℕ → List Line
+edit_lines number classes selectors state =
+    Phase ∷ lines_in_turn (edit_line number classes selectors) after_edit state 0 edits
+
+abbrev pub after_edits : ℕ → ℕ
+after_edits state = state_after after_edit state 0 edits
+
+-- ---- the whole script
+
+abbrev pub after_definitions : ℕ → ℕ → ℕ → ℕ
+after_definitions number classes selectors =
+    state_after (after_definition selectors) (after_classes number classes) 0 (definition_count selectors)
+
+abbrev pub before_edits : ℕ → ℕ → ℕ → ℕ
+before_edits number classes selectors = after_callers selectors (after_definitions number classes selectors)
+
+abbrev pub generated_lines : ℕ → ℕ → ℕ → List Line
+generated_lines number classes selectors =
+    Header ∷ class_lines number classes
+    ++ selector_lines selectors
+    ++ definition_lines classes selectors (after_classes number classes)
+    ++ calling_lines classes selectors (after_definitions number classes selectors)
+    ++ edit_lines number classes selectors (before_edits number classes selectors)
+    ++ calling_lines classes selectors (after_edits (before_edits number classes selectors))
+    ++ End ∷ []
