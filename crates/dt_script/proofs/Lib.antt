@@ -27,3 +27,4 @@ pub mod Drawing
 pub mod GeneratedSpelling
 pub mod WrittenInTurn
 pub mod GeneratedKept
+pub mod GeneratedWhole

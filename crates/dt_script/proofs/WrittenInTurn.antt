@@ -73,6 +73,14 @@ one_more_written lines leaves before start first count number text next state af
       state_is = is' ∙ ap (leaves state) at ∙ ap (λ s. leaves s (first + count)) so_far.state_is ∙ sym (state-more leaves start first count) ∙ ap (state_after leaves start first) (sym one);
     }
 
+-- a line of its own
+pub one_line_written : (lines : ℕ → ℕ → List Line) (leaves : ℕ → ℕ → ℕ) (before : List ℕ) (start first count number : ℕ) (text next : List ℕ) (state after : ℕ) (line : Line)
+    → number ≡ first + count → next ≡ text ++ ended line → lines state number ≡ line ∷ [] → after ≡ leaves state number
+    → WrittenSoFar lines leaves before start first count text state → WrittenSoFar lines leaves before start first (count + 1) next after
+one_line_written lines leaves before start first count number text next state after line at is alone is' so_far =
+    one_more_written lines leaves before start first count number text next state after at
+    (is ∙ ap (λ l. text ++ l) (sym (text-one line)) ∙ ap (λ l. text ++ text_of_lines l) (sym alone)) is' so_far
+
 -- a batch around lines
 batch_put : (old one two new : List ℕ) (lines : List Line) → one ≡ old ++ codes "begin\n" → two ≡ one ++ text_of_lines lines → new ≡ two ++ codes "commit\n"
     → new ≡ old ++ text_of_lines (Begin ∷ lines ++ Commit ∷ [])

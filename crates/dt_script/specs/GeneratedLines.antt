@@ -101,6 +101,9 @@ abbrev pub definition_lines : ℕ → ℕ → ℕ → List Line
 definition_lines classes selectors state =
     lines_in_turn (definition_line classes selectors) (after_definition selectors) state 0 (definition_count selectors)
 
+abbrev pub after_definitions : ℕ → ℕ → ℕ
+after_definitions selectors state = state_after (after_definition selectors) state 0 (definition_count selectors)
+
 -- ---- callers: a phase of four, each with 2,500 calls
 
 abbrev pub callers : ℕ
@@ -147,52 +150,58 @@ abbrev pub tuple_at : ℕ → ℕ → ℕ → ℕ → List ℕ
 tuple_at classes selectors start definition =
     tuple_of classes selectors (state_after (after_definition selectors) start 0 definition) definition
 
--- a definition goes, whether or not it stands
-abbrev pub undefine_line : ℕ → ℕ → ℕ → ℕ → Line
-undefine_line number classes selectors definition =
-    Undefine (selector_of selectors definition) (tuple_at classes selectors (after_classes number classes) definition)
+-- a definition goes, whether or not it stands: its selector, at the classes that it had
+abbrev pub undefine_line : (ℕ → List ℕ) → ℕ → ℕ → Line
+undefine_line tuples selectors definition = Undefine (selector_of selectors definition) (tuples definition)
 
 -- a definition comes again
-abbrev pub define_line : ℕ → ℕ → ℕ → ℕ → Line
-define_line number classes selectors definition =
-    Define (selector_of selectors definition) (tuple_at classes selectors (after_classes number classes) definition) definition
+abbrev pub define_line : (ℕ → List ℕ) → ℕ → ℕ → Line
+define_line tuples selectors definition = Define (selector_of selectors definition) (tuples definition) definition
 
 -- any class but the first
 abbrev pub class_drawn : ℕ → ℕ → ℕ
 class_drawn classes state = 1 + drawn state (classes - 1)
 
-abbrev pub edit_line : ℕ → ℕ → ℕ → ℕ → ℕ → List Line
-edit_line number classes selectors state edit =
-    (if edit % 4 == 0 then undefine_line number classes selectors (drawn state (definition_count selectors))
-    else if edit % 4 == 1 then define_line number classes selectors (drawn state (definition_count selectors))
+-- an edit, from the first parents of the classes and the classes of the definitions
+abbrev pub edit_line : (ℕ → ℕ) → (ℕ → List ℕ) → ℕ → ℕ → ℕ → ℕ → List Line
+edit_line parents tuples classes selectors state edit =
+    (if edit % 4 == 0 then undefine_line tuples selectors (drawn state (definition_count selectors))
+    else if edit % 4 == 1 then define_line tuples selectors (drawn state (definition_count selectors))
     else if edit % 4 == 2 then Link (class_drawn classes state) (drawn (next_state state) (class_drawn classes state))
-    else Unlink (class_drawn classes state) (first_parent number (class_drawn classes state))) ∷ []
+    else Unlink (class_drawn classes state) (parents (class_drawn classes state))) ∷ []
 
 abbrev pub after_edit : ℕ → ℕ → ℕ
 after_edit state edit = if edit % 4 == 2 then next_state (next_state state) else next_state state
 
-abbrev pub edit_lines : ℕ → ℕ → ℕ → ℕ → List Line
-edit_lines number classes selectors state =
-    Phase ∷ lines_in_turn (edit_line number classes selectors) after_edit state 0 edits
+abbrev pub edit_lines : (ℕ → ℕ) → (ℕ → List ℕ) → ℕ → ℕ → ℕ → List Line
+edit_lines parents tuples classes selectors state =
+    Phase ∷ lines_in_turn (edit_line parents tuples classes selectors) after_edit state 0 edits
 
 abbrev pub after_edits : ℕ → ℕ
 after_edits state = state_after after_edit state 0 edits
 
 -- ---- the whole script
 
-abbrev pub after_definitions : ℕ → ℕ → ℕ → ℕ
-after_definitions number classes selectors =
-    state_after (after_definition selectors) (after_classes number classes) 0 (definition_count selectors)
-
-abbrev pub before_edits : ℕ → ℕ → ℕ → ℕ
-before_edits number classes selectors = after_callers selectors (after_definitions number classes selectors)
-
-abbrev pub generated_lines : ℕ → ℕ → ℕ → List Line
-generated_lines number classes selectors =
+-- the header, and the batches that make the program
+abbrev pub program_lines : ℕ → ℕ → ℕ → List Line
+program_lines number classes selectors =
     Header ∷ class_lines number classes
     ++ selector_lines selectors
     ++ definition_lines classes selectors (after_classes number classes)
-    ++ calling_lines classes selectors (after_definitions number classes selectors)
-    ++ edit_lines number classes selectors (before_edits number classes selectors)
-    ++ calling_lines classes selectors (after_edits (before_edits number classes selectors))
+
+abbrev pub after_program : ℕ → ℕ → ℕ → ℕ
+after_program number classes selectors = after_definitions selectors (after_classes number classes)
+
+-- callers before the edits and after them, and the end
+abbrev pub phase_lines : (ℕ → ℕ) → (ℕ → List ℕ) → ℕ → ℕ → ℕ → List Line
+phase_lines parents tuples classes selectors state =
+    calling_lines classes selectors state
+    ++ edit_lines parents tuples classes selectors (after_callers selectors state)
+    ++ calling_lines classes selectors (after_edits (after_callers selectors state))
     ++ End ∷ []
+
+abbrev pub generated_lines : ℕ → ℕ → ℕ → List Line
+generated_lines number classes selectors =
+    program_lines number classes selectors
+    ++ phase_lines (first_parent number) (tuple_at classes selectors (after_classes number classes)) classes selectors
+    (after_program number classes selectors)

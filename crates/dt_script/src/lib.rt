@@ -6,8 +6,13 @@ mod caller_set;
 mod callers;
 mod cut;
 mod draws;
+mod generated_calls;
 mod generated_classes;
+mod generated_definitions;
+mod generated_edits;
 mod generated_line;
+mod generated_script;
+mod generated_selectors;
 mod generated_size;
 mod keyword;
 mod laws;
@@ -34,6 +39,7 @@ mod writing;
 mod written;
 mod written_line;
 
+pub use generated_script::make_script;
 pub use laws::{
     lines_have_one_spelling, names_keep_their_spellings, spellings_have_one_line,
     written_lines_are_read_again,
