@@ -5,9 +5,8 @@ use Rattle.std.specs.List.{join_with_byte}
 use Rattle.std.proofs.lemmas.Grind.{flat_map-append}
 use Rattle.std.proofs.lemmas.List.Folds.{flat_map-map}
 use Rattle.dt_scratch.specs.Query.{Query}
-use Rattle.dt_script.specs.Word.{Word, Plain, Number, Class, Selector, Body}
-use Rattle.dt_script.specs.GeneratedText.{generated_word, generated_line, ended, text_of_lines}
-use Rattle.dt_script.specs.declared.line.Line.{Line}
+use Rattle.dt_script.specs.Word.{Word, Plain, Class, Selector, Body}
+use Rattle.dt_script.specs.GeneratedText.{generated_word, ended}
 use Rattle.dt_script.specs.declared.line.Line.TheVariants as line
 
 -- words, each behind a space

@@ -1,10 +1,10 @@
 -- The whole text from its parts, and the edits from what is kept.
-use Rattle.std.proofs.Common.{◌≡◌, ◌==◌, ℕ, ◌+◌, ◌-◌, ◌%◌, ◌<◌, ◌≤◌, Bool, true, false, cond, zero, suc, List, [], ◌∷◌, ◌++◌, codes, get_or, refl, sym, ap, ◌∙◌, append_assoc, arith}
+use Rattle.std.proofs.Common.{◌≡◌, ◌==◌, ℕ, ◌+◌, ◌-◌, ◌%◌, ◌<◌, Bool, true, false, cond, zero, suc, List, [], ◌∷◌, ◌++◌, codes, get_or, refl, sym, ap, ◌∙◌, append_assoc, arith}
 use Rattle.dt_script.specs.Draw.{next_state, number_of, drawn}
-use Rattle.dt_script.specs.GeneratedLines.{lines_in_turn, definition_count, selector_of, after_classes, after_program, first_parent, tuple_at, undefine_line, define_line, class_drawn, edit_line, after_edit, edits, edit_lines, calling_lines, after_callers, after_edits, phase_lines}
+use Rattle.dt_script.specs.GeneratedLines.{lines_in_turn, definition_count, selector_of, after_classes, after_program, first_parent, tuple_at, undefine_line, define_line, class_drawn, edit_line, after_edit, edits, calling_lines, after_callers, after_edits, phase_lines}
 use Rattle.dt_script.specs.GeneratedLists.{HasFirstParents, HasTuples}
 use Rattle.dt_script.specs.GeneratedSize.{IsSize}
-use Rattle.dt_script.specs.GeneratedText.{ended, text_of_lines}
+use Rattle.dt_script.specs.GeneratedText.{text_of_lines}
 use Rattle.dt_script.specs.declared.line.Line.{Line}
 use Rattle.dt_script.specs.declared.line.Line.TheVariants.{Header, Link, Unlink, Define, Undefine, Phase, End}
 use Rattle.dt_script.proofs.WrittenInTurn.{text-append}

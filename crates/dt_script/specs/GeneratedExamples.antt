@@ -1,10 +1,10 @@
 -- The script that is generated from 0 with two classes and one selector, and parts of others.
-use Rattle.std.specs.Prelude.{◌≡◌, ℕ, List, [], ◌∷◌, ◌++◌, codes, length, refl}
+use Rattle.std.specs.Prelude.{◌≡◌, [], ◌∷◌, codes, length, refl}
 use Rattle.std.specs.Fmt.{digits}
 use Rattle.dt_script.specs.Draw.{next_state, number_of, state_after}
-use Rattle.dt_script.specs.GeneratedLines.{lines_in_turn, class_lines, selector_lines, definition_lines, after_classes, parents_drawn, generated_lines}
+use Rattle.dt_script.specs.GeneratedLines.{lines_in_turn, class_lines, selector_lines, definition_lines, after_classes, generated_lines}
 use Rattle.dt_script.specs.GeneratedText.{text_of_lines}
-use Rattle.dt_script.specs.declared.line.Line.TheVariants.{Header, AddClass, Define, Begin, Commit}
+use Rattle.dt_script.specs.declared.line.Line.TheVariants.{AddClass, Begin, Commit}
 
 -- its classes
 two_classes : class_lines 0 2 ≡ Begin ∷ AddClass 0 [] ∷ AddClass 1 (0 ∷ []) ∷ Commit ∷ []

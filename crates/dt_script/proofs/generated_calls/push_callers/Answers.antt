@@ -1,4 +1,4 @@
-use Rattle.std.proofs.Common.{◌≡◌, ◌+◌, ◌-◌, ◌≤◌, sym, subst, arith}
+use Rattle.std.proofs.Common.{◌≡◌, ◌+◌, ◌-◌, ◌≤◌, subst, arith}
 use Rattle.dt_script.specs.GeneratedLines.{caller_lines, after_caller}
 use Rattle.dt_script.proofs.WrittenInTurn.{WrittenSoFar, nothing_written, one_more_written}
 use Rattle.dt_script.proofs.generated_calls.push_callers.Goals as goal

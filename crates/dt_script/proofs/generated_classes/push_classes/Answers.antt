@@ -1,4 +1,4 @@
-use Rattle.std.proofs.Common.{◌≡◌, ◌∙◌, ap, subst, arith}
+use Rattle.std.proofs.Common.{◌≡◌, subst, arith}
 use Rattle.dt_script.specs.GeneratedLines.{class_line, after_parents}
 use Rattle.dt_script.specs.GeneratedLists.{HasFirstParents}
 use Rattle.dt_script.proofs.Joined.{on_ok}

@@ -1,4 +1,4 @@
-use Rattle.std.proofs.Common.{◌≡◌, ◌∙◌, sym, subst, refl, arith}
+use Rattle.std.proofs.Common.{arith}
 use Rattle.dt_script.specs.GeneratedLines.{definition_line, after_definition}
 use Rattle.dt_script.proofs.WrittenInTurn.{nothing_written, one_more_written}
 use Rattle.dt_script.proofs.GeneratedKept.{no_tuples, one_more_tuple}

@@ -1,4 +1,4 @@
-use Rattle.std.proofs.Common.{◌≡◌, ◌++◌, ◌∷◌, [], ◌∙◌, ap, sym, subst, refl, arith}
+use Rattle.std.proofs.Common.{◌≡◌, ◌∷◌, [], ap, sym, subst, refl, arith}
 use Rattle.dt_script.specs.GeneratedLines.{selector_line, after_selector}
 use Rattle.dt_script.specs.declared.line.Line.TheVariants.{AddSelector}
 use Rattle.dt_script.proofs.Joined.{on_ok}
