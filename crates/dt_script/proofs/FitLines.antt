@@ -29,7 +29,7 @@ digits-before n digits many are =
     list_all-append is_name_byte digits ((48 + n % 10) ∷ [])
     ∙ and_from (list_all is_name_byte digits) (list_all is_name_byte ((48 + n % 10) ∷ [])) are (digit (n % 10) (omega arith))
 
-decimal-name : (n : ℕ) → n < 65536 → is_name (decimal n) ≡ true
+pub decimal-name : (n : ℕ) → n < 65536 → is_name (decimal n) ≡ true
 decimal-name n small =
     let some = decimal_nonempty n (omega arith) in
     let few = length-decimal-le 5 n (omega arith) (omega arith) (omega arith) in

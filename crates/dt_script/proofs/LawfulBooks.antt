@@ -31,7 +31,7 @@ last-cases (t ∷ texts) last text zero e = inl e
 last-cases (t ∷ texts) last text (suc number) e =
     elim (last-cases texts last text number e) [ inl h ↦ inl h | inr h ↦ inr (ap (λ n. suc n) h.0, h.1) ]
 
-text-more : NamesLaw → (name : List ℕ) (texts : List (List ℕ)) → LawfulTexts texts → IsTrue (is_name name) → LawfulTexts (with_text name texts)
+pub text-more : NamesLaw → (name : List ℕ) (texts : List (List ℕ)) → LawfulTexts texts → IsTrue (is_name name) → LawfulTexts (with_text name texts)
 text-more law name texts lawful is = by (position_of name texts) refl
   where
     by : (o : Option ℕ) → position_of name texts ≡ o → LawfulTexts (with_text name texts)

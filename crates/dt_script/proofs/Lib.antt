@@ -28,3 +28,5 @@ pub mod GeneratedSpelling
 pub mod WrittenInTurn
 pub mod GeneratedKept
 pub mod GeneratedWhole
+pub mod GeneratedNames
+pub mod GeneratedPlaces

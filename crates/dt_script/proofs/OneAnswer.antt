@@ -52,7 +52,7 @@ texts_speak book k words (text ∷ texts) are =
       same_text : Some (text_of_keyword k) ≡ Some text → text_of_keyword k ≡ text
       same_text same = cc
 
-line_speaks : (bytes : List ℕ) (before after : NameBook) (line : Line) → LineOf bytes before line after → is_silent bytes ≡ false
+pub line_speaks : (bytes : List ℕ) (before after : NameBook) (line : Line) → LineOf bytes before line after → is_silent bytes ≡ false
 line_speaks bytes before after line is =
     ap is_silent is.spelled
     ∙ texts_speak after (first_of line) _ is.texts (subst (λ words. AreTexts after words is.texts) (first line) is.written)

@@ -23,6 +23,7 @@ pub mod LawfulBook
 pub mod Growth
 pub mod Laws
 pub mod OneAnswer
+pub mod GeneratedLaws
 -- Worked examples.
 pub mod LineExamples
 pub mod LanguageExamples
