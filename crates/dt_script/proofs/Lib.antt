@@ -30,3 +30,4 @@ pub mod GeneratedKept
 pub mod GeneratedWhole
 pub mod GeneratedNames
 pub mod GeneratedPlaces
+pub mod GeneratedRun
