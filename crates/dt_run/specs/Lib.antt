@@ -28,6 +28,3 @@ pub mod Performing
 pub mod LogWord
 pub mod Putting
 pub mod Tallying
--- A kind of table that covers no query, for tables that are named and not built.
-pub mod Untabled
-pub mod UntabledLaws

@@ -9,7 +9,6 @@ mod print;
 mod running;
 mod status;
 mod turnstile;
-mod untabled;
 
 pub use dt_words::{ArgWords, Command, Limits, Table, WordsFault, read_words};
 pub use laws::{logs_are_determined_by_their_texts, outcomes_are_named};

@@ -18,10 +18,10 @@ use crate::perform::perform_script;
 use crate::print::{print_fault, print_log};
 use crate::status::Status;
 use crate::turnstile::Turnstile;
-use crate::untabled::Untabled;
-use dt_cells::TableKind;
+use dt_cells::{Pair, TableKind};
 use dt_colour::Colour;
 use dt_definitions::NoMemory;
+use dt_mrd::Mrd;
 use dt_outside::{Failed, Sink, Source, put_all};
 use dt_row::Row;
 use dt_script::{
@@ -171,18 +171,18 @@ fn run_by<S: Source, K: Sink, T: Turnstile>(
     ensures sink_counts { K.faults sink.old ≤ K.faults sink.new }
 {
     match table {
-        Table::Sti => run_source::<Sti, S, K, T>(alloc, source, sink, readers, turnstile),
-        Table::Colour => run_source::<Colour, S, K, T>(alloc, source, sink, readers, turnstile),
-        Table::Row => run_source::<Row, S, K, T>(alloc, source, sink, readers, turnstile),
-        Table::Mrd => run_source::<Untabled, S, K, T>(alloc, source, sink, readers, turnstile),
+        Table::Sti => run_source::<Pair<Sti, Mrd>, S, K, T>(alloc, source, sink, readers, turnstile),
+        Table::Colour => run_source::<Pair<Colour, Mrd>, S, K, T>(alloc, source, sink, readers, turnstile),
+        Table::Row => run_source::<Pair<Row, Mrd>, S, K, T>(alloc, source, sink, readers, turnstile),
+        Table::Mrd => run_source::<Mrd, S, K, T>(alloc, source, sink, readers, turnstile),
     }
 }
 
 /// Runs the program: reads the words, then the source to its end, performs the script, and prints the log to the sink.
-/// Each call is answered after the edits of its phase, or at the version of its caller's pin. Calls with one argument and no
-/// pin in force are answered by the table: selector table indexing (`sti`), selector colouring (`colour`) or row displacement
-/// (`row`). All other calls, and all calls with `mrd`, which isn't built yet, by look-up from scratch. What is answered is the
-/// same.
+/// Each call is answered after the edits of its phase, or at the version of its caller's pin. Calls without a pin in force
+/// are answered by the table: those with one argument by selector table indexing (`sti`), selector colouring (`colour`) or row
+/// displacement (`row`), those with more by multiple row displacement; and with `mrd` all of them by that. Calls under a pin are
+/// looked up from scratch. What is answered is the same.
 ///
 /// The status tells how it ended. [`Status::Done`]: the bytes are a script for as many readers as the words say, the log
 /// is an outcome of it, and the sink took its text. [`Status::Usage`]: exactly where the words ask for no run and memory
