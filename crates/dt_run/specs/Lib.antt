@@ -21,6 +21,7 @@ pub mod Ending
 pub mod OutcomeExamples
 pub mod RunExamples
 pub mod EndingExamples
+pub mod FaultExamples
 pub mod TextExamples
 pub mod SummaryExamples
 -- How it is made: no clause of a public call speaks of these.
