@@ -24,6 +24,8 @@ pub mod EndingExamples
 pub mod FaultExamples
 pub mod TextExamples
 pub mod SummaryExamples
+-- Of edits, in a crate above theirs.
+pub mod ConcernExamples
 -- How it is made: no clause of a public call speaks of these.
 pub mod Performing
 pub mod LogWord
