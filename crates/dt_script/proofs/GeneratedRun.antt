@@ -87,7 +87,7 @@ or_true true c is = refl
 or_true false c is = is
 
 module _ (law : NamesLaw) (readers classes selectors : ℕ) (size : IsSize classes selectors) where
-  fits_at : (c s b : ℕ) (in_batch calling : Bool) (least : ℕ) → c ≤ classes → s ≤ selectors → b ≤ definition_count selectors → Fits (sit c s b in_batch calling least)
+  pub fits_at : (c s b : ℕ) (in_batch calling : Bool) (least : ℕ) → c ≤ classes → s ≤ selectors → b ≤ definition_count selectors → Fits (sit c s b in_batch calling least)
   fits_at c s b in_batch calling least low low' low'' = record {
     classes = omega (arith, low, size.classes_in_range);
     selectors = omega (arith, low', size.selectors_in_range);
@@ -163,7 +163,7 @@ module _ (law : NamesLaw) (readers classes selectors : ℕ) (size : IsSize class
   abbrev pub full : Bool → ℕ → Situation
   full calling least = sit classes selectors (definition_count selectors) false calling least
 
-  full_fits : (calling : Bool) (least : ℕ) → Fits (full calling least)
+  pub full_fits : (calling : Bool) (least : ℕ) → Fits (full calling least)
   full_fits calling least = fits_at classes selectors (definition_count selectors) false calling least (omega arith) (omega arith) (omega arith)
 
   call_goes : (least s n : ℕ) → GoesOn readers (call_line classes selectors s n) (full true least) (full true least)

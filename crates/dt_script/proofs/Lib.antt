@@ -31,3 +31,4 @@ pub mod GeneratedWhole
 pub mod GeneratedNames
 pub mod GeneratedPlaces
 pub mod GeneratedRun
+pub mod GeneratedIsScript
