@@ -14,7 +14,7 @@ use Rattle.dt_script.specs.Script.{script_of}
 use Rattle.dt_script.specs.ScriptOf.{WereRead, HasHeader, IsScriptOf}
 use Rattle.dt_script.specs.GeneratedSize.{IsSize}
 use Rattle.dt_script.specs.GeneratedLaws.{numbered_book, generated_script, GeneratedIsScript}
-use Rattle.dt_script.specs.GeneratedLines.{class_lines, after_classes, selector_lines, definition_count, definition_lines, after_program, calling_lines, callers, after_callers, edit_lines, after_edits, first_parent, tuple_at, generated_lines}
+use Rattle.dt_script.specs.GeneratedLines.{class_lines, after_classes, selector_lines, definition_count, definition_lines, after_program, calling_lines, caller_count, after_callers, edit_lines, after_edits, first_parent, tuple_at, generated_lines}
 use Rattle.dt_script.specs.GeneratedText.{generated_line, text_of_lines}
 use Rattle.dt_script.specs.declared.line.Line.{Line}
 use Rattle.dt_script.specs.declared.line.Line.TheVariants.{Header, End}
@@ -141,7 +141,7 @@ script_of_body law readers body done fits closed goes =
 
 -- ---- the whole
 
-module _ (law : NamesLaw) (number classes selectors readers : ℕ) (size : IsSize classes selectors) (enough : callers ≤ readers) where
+module _ (law : NamesLaw) (number classes selectors readers : ℕ) (size : IsSize classes selectors) (enough : caller_count ≤ readers) where
   -- the lines between the header and the end
   abbrev body : List Line
   body =

@@ -4,7 +4,7 @@ use Rattle.std.proofs.lemmas.Bool.Decides.{nat_tests}
 use Rattle.dt_script.specs.Draw.{next_state, number_of, drawn, state_after}
 use Rattle.dt_script.specs.Line.{is_from_one_to}
 use Rattle.dt_script.specs.GeneratedSize.{IsSize}
-use Rattle.dt_script.specs.GeneratedLines.{lines_in_turn, second_parent, parents_drawn, after_parents, class_line, class_lines, after_classes, arity_of_number, selector_line, after_selector, selector_lines, definition_count, is_first_of_batch, is_last_of_batch, classes_drawn, selector_of, tuple_of, after_definition, definition_line, definition_lines, callers, calls_of_caller, call_line, after_call, caller_lines, after_caller, calling_lines, edits, first_parent, tuple_at, undefine_line, define_line, class_drawn, edit_line, after_edit, edit_lines}
+use Rattle.dt_script.specs.GeneratedLines.{lines_in_turn, second_parent, parents_drawn, after_parents, class_line, class_lines, after_classes, arity_of_number, selector_line, after_selector, selector_lines, definition_count, is_first_of_batch, is_last_of_batch, classes_drawn, selector_of, tuple_of, after_definition, definition_line, definition_lines, caller_count, call_count, call_line, after_call, caller_lines, after_caller, calling_lines, edit_count, first_parent, tuple_at, undefine_line, define_line, class_drawn, edit_line, after_edit, edit_lines}
 use Rattle.dt_script.specs.declared.line.Line.{Line}
 use Rattle.dt_script.specs.declared.line.Line.TheVariants.{AddClass, Link, Unlink, AddSelector, Define, Undefine, Begin, Commit, Phase, Caller, Call}
 use Rattle.dt_script.proofs.LawfulBooks.{NamesLaw}
@@ -52,7 +52,7 @@ below_if : (bound : ℕ) (b : Bool) (xs ys : List ℕ) → AreBelow bound xs →
 below_if bound true xs ys are are' = are
 below_if bound false xs ys are are' = are'
 
-parents_below : (state class : ℕ) → AreBelow class (parents_drawn state class)
+pub parents_below : (state class : ℕ) → AreBelow class (parents_drawn state class)
 parents_below state zero = tt
 parents_below state (suc class) =
     (
@@ -61,7 +61,7 @@ parents_below state (suc class) =
       (below_if (suc class) (drawn (next_state (next_state state)) (suc class) == drawn state (suc class)) [] (drawn (next_state (next_state state)) (suc class) ∷ []) tt (drawn-below (next_state (next_state state)) (suc class) (omega arith), tt)) tt,
     )
 
-tuple_below : (classes state places : ℕ) → 0 < classes → AreBelow classes (classes_drawn classes state places)
+pub tuple_below : (classes state places : ℕ) → 0 < classes → AreBelow classes (classes_drawn classes state places)
 tuple_below classes state zero some = tt
 tuple_below classes state (suc places) some = (drawn-below state classes some, tuple_below classes (next_state state) places some)
 
@@ -176,21 +176,21 @@ module _ (law : NamesLaw) (readers classes selectors : ℕ) (size : IsSize class
   abbrev called : ℕ → Situation
   called caller = full (nat_lt 1 caller) caller
 
-  caller_goes : (s caller : ℕ) → 1 ≤ caller → caller < 5 → callers ≤ readers → GoesOn readers (caller_lines classes selectors s caller) (called caller) (called (caller + 1))
+  caller_goes : (s caller : ℕ) → 1 ≤ caller → caller < 5 → caller_count ≤ readers → GoesOn readers (caller_lines classes selectors s caller) (called caller) (called (caller + 1))
   caller_goes s caller first last enough =
       let calls : true ≡ nat_lt 1 (caller + 1) = grind (arith, nat_tests) in
       (
         full true (caller + 1),
         caller_step law readers (called caller) (full true (caller + 1)) caller (full_fits (nat_lt 1 caller) caller) refl refl refl refl refl refl first (omega (arith, last, enough)) (omega (arith, last)),
-        subst (λ b. GoesOn readers (lines_in_turn (call_line classes selectors) (after_call selectors) s 0 calls_of_caller) (full true (caller + 1)) (full b (caller + 1))) calls
-        (from_zero readers (call_line classes selectors) (after_call selectors) (λ n. full true (caller + 1)) s calls_of_caller (λ t n below. call_goes (caller + 1) t n)),
+        subst (λ b. GoesOn readers (lines_in_turn (call_line classes selectors) (after_call selectors) s 0 call_count) (full true (caller + 1)) (full b (caller + 1))) calls
+        (from_zero readers (call_line classes selectors) (after_call selectors) (λ n. full true (caller + 1)) s call_count (λ t n below. call_goes (caller + 1) t n)),
       )
 
-  pub callers_go : (state : ℕ) → callers ≤ readers → GoesOn readers (calling_lines classes selectors state) (full false 0) (full true 5)
+  pub callers_go : (state : ℕ) → caller_count ≤ readers → GoesOn readers (calling_lines classes selectors state) (full false 0) (full true 5)
   callers_go state enough = (
     full false 1,
     phase_step law readers (full false 0) (full false 1) (full_fits false 0) refl refl refl refl,
-    in_turn readers (caller_lines classes selectors) (after_caller selectors) called state 1 callers (λ s n low high. caller_goes s n low high enough),
+    in_turn readers (caller_lines classes selectors) (after_caller selectors) called state 1 caller_count (λ s n low high. caller_goes s n low high enough),
   )
 
   -- ---- edits
@@ -231,5 +231,5 @@ module _ (law : NamesLaw) (readers classes selectors : ℕ) (size : IsSize class
   edits_go number state = (
     full false 0,
     phase_step law readers (full true 5) (full false 0) (full_fits true 5) refl refl refl refl,
-    from_zero readers (edit_line (first_parent number) (tuple_at classes selectors (after_classes number classes)) classes selectors) after_edit (λ n. full false 0) state edits (λ s n below. edit_goes number s n),
+    from_zero readers (edit_line (first_parent number) (tuple_at classes selectors (after_classes number classes)) classes selectors) after_edit (λ n. full false 0) state edit_count (λ s n below. edit_goes number s n),
   )

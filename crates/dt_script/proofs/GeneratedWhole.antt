@@ -1,7 +1,7 @@
 -- The whole text from its parts, and the edits from what is kept.
 use Rattle.std.proofs.Common.{◌≡◌, ◌==◌, ℕ, ◌+◌, ◌-◌, ◌%◌, ◌<◌, Bool, true, false, cond, zero, suc, List, [], ◌∷◌, ◌++◌, codes, get_or, refl, sym, ap, ◌∙◌, append_assoc, arith}
 use Rattle.dt_script.specs.Draw.{next_state, number_of, drawn}
-use Rattle.dt_script.specs.GeneratedLines.{lines_in_turn, definition_count, selector_of, after_classes, after_program, first_parent, tuple_at, undefine_line, define_line, class_drawn, edit_line, after_edit, edits, calling_lines, after_callers, after_edits, phase_lines}
+use Rattle.dt_script.specs.GeneratedLines.{lines_in_turn, definition_count, selector_of, after_classes, after_program, first_parent, tuple_at, undefine_line, define_line, class_drawn, edit_line, after_edit, edit_count, calling_lines, after_callers, after_edits, phase_lines}
 use Rattle.dt_script.specs.GeneratedLists.{HasFirstParents, HasTuples}
 use Rattle.dt_script.specs.GeneratedSize.{IsSize}
 use Rattle.dt_script.specs.GeneratedText.{text_of_lines}
@@ -19,12 +19,12 @@ program_put old one two three new classes selectors definitions e1 e2 e3 e4 =
     regroup : (o a b c d : List ℕ) → (((o ++ a) ++ b) ++ c) ++ d ≡ o ++ (((a ++ b) ++ c) ++ d)
     regroup o a b c d = simp append_assoc
 
-pub phases_put : (old one two three new : List ℕ) (first edits second : List Line) → one ≡ old ++ text_of_lines first → two ≡ one ++ text_of_lines edits
-    → three ≡ two ++ text_of_lines second → new ≡ three ++ codes "end\n" → new ≡ old ++ text_of_lines (first ++ edits ++ second ++ End ∷ [])
-phases_put old one two three new first edits second e1 e2 e3 e4 =
-    e4 ∙ ap (λ l. l ++ codes "end\n") (e3 ∙ ap (λ l. l ++ text_of_lines second) (e2 ∙ ap (λ l. l ++ text_of_lines edits) e1))
-    ∙ regroup old (text_of_lines first) (text_of_lines edits) (text_of_lines second) (codes "end\n")
-    ∙ ap (λ l. old ++ l) (sym (text-append (first ++ edits ++ second) (End ∷ []) ∙ ap (λ l. l ++ codes "end\n") (text-append (first ++ edits) second ∙ ap (λ l. l ++ text_of_lines second) (text-append first edits))))
+pub phases_put : (old one two three new : List ℕ) (first middle second : List Line) → one ≡ old ++ text_of_lines first → two ≡ one ++ text_of_lines middle
+    → three ≡ two ++ text_of_lines second → new ≡ three ++ codes "end\n" → new ≡ old ++ text_of_lines (first ++ middle ++ second ++ End ∷ [])
+phases_put old one two three new first middle second e1 e2 e3 e4 =
+    e4 ∙ ap (λ l. l ++ codes "end\n") (e3 ∙ ap (λ l. l ++ text_of_lines second) (e2 ∙ ap (λ l. l ++ text_of_lines middle) e1))
+    ∙ regroup old (text_of_lines first) (text_of_lines middle) (text_of_lines second) (codes "end\n")
+    ∙ ap (λ l. old ++ l) (sym (text-append (first ++ middle ++ second) (End ∷ []) ∙ ap (λ l. l ++ codes "end\n") (text-append (first ++ middle) second ∙ ap (λ l. l ++ text_of_lines second) (text-append first middle))))
   where
     regroup : (o a b c d : List ℕ) → (((o ++ a) ++ b) ++ c) ++ d ≡ o ++ (((a ++ b) ++ c) ++ d)
     regroup o a b c d = simp append_assoc
@@ -77,7 +77,7 @@ module _ (parents parents' : ℕ → ℕ) (tuples tuples' : ℕ → List ℕ) (c
   pub same_phases : (state : ℕ) → phase_lines parents tuples classes selectors state ≡ phase_lines parents' tuples' classes selectors state
   same_phases state =
       ap (λ l. calling_lines classes selectors state ++ (Phase ∷ l) ++ calling_lines classes selectors (after_edits (after_callers selectors state)) ++ End ∷ [])
-      (same_in_turn (edit_line parents tuples classes selectors) (edit_line parents' tuples' classes selectors) after_edit (after_callers selectors state) 0 edits same_edit)
+      (same_in_turn (edit_line parents tuples classes selectors) (edit_line parents' tuples' classes selectors) after_edit (after_callers selectors state) 0 edit_count same_edit)
 
 -- what is kept gives the phases that the number gives
 pub kept_phases : (number classes selectors state : ℕ) (firsts : List ℕ) (tuples : List (List ℕ)) → IsSize classes selectors → HasFirstParents number classes firsts

@@ -32,3 +32,4 @@ pub mod GeneratedNames
 pub mod GeneratedPlaces
 pub mod GeneratedRun
 pub mod GeneratedIsScript
+pub mod GeneratedShort

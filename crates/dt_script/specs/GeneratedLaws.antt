@@ -5,7 +5,7 @@ use Rattle.dt_script.specs.NameBook.{NameBook}
 use Rattle.dt_script.specs.Script.{Script, script_of}
 use Rattle.dt_script.specs.ScriptOf.{IsScriptOf}
 use Rattle.dt_script.specs.GeneratedSize.{IsSize}
-use Rattle.dt_script.specs.GeneratedLines.{definition_count, callers, generated_lines}
+use Rattle.dt_script.specs.GeneratedLines.{definition_count, caller_count, generated_lines}
 use Rattle.dt_script.specs.GeneratedText.{generated_text}
 use Rattle.dt_script.specs.declared.limits.TheConstants.{SCRIPT_BYTES}
 
@@ -28,7 +28,7 @@ generated_script number classes selectors =
 
 -- A generated text is the script of its lines, where there are as many readers as it has callers.
 abbrev pub GeneratedIsScript : Type 0
-GeneratedIsScript = (number classes selectors readers : ℕ) → IsSize classes selectors → callers ≤ readers
+GeneratedIsScript = (number classes selectors readers : ℕ) → IsSize classes selectors → caller_count ≤ readers
     → IsScriptOf readers (generated_text number classes selectors) (generated_script number classes selectors)
 
 -- It has no more bytes than a script may have.

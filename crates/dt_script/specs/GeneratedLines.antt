@@ -106,11 +106,11 @@ after_definitions selectors state = state_after (after_definition selectors) sta
 
 -- ---- callers: a phase of four, each with 2,500 calls
 
-abbrev pub callers : ℕ
-callers = 4
+abbrev pub caller_count : ℕ
+caller_count = 4
 
-abbrev pub calls_of_caller : ℕ
-calls_of_caller = 2500
+abbrev pub call_count : ℕ
+call_count = 2500
 
 -- any selector, at any classes
 abbrev pub call_line : ℕ → ℕ → ℕ → ℕ → List Line
@@ -124,22 +124,22 @@ after_call selectors state number = after_draws (next_state state) (arity_of_num
 
 abbrev pub caller_lines : ℕ → ℕ → ℕ → ℕ → List Line
 caller_lines classes selectors state caller =
-    Caller caller ∷ lines_in_turn (call_line classes selectors) (after_call selectors) state 0 calls_of_caller
+    Caller caller ∷ lines_in_turn (call_line classes selectors) (after_call selectors) state 0 call_count
 
 abbrev pub after_caller : ℕ → ℕ → ℕ → ℕ
-after_caller selectors state caller = state_after (after_call selectors) state 0 calls_of_caller
+after_caller selectors state caller = state_after (after_call selectors) state 0 call_count
 
 abbrev pub calling_lines : ℕ → ℕ → ℕ → List Line
 calling_lines classes selectors state =
-    Phase ∷ lines_in_turn (caller_lines classes selectors) (after_caller selectors) state 1 callers
+    Phase ∷ lines_in_turn (caller_lines classes selectors) (after_caller selectors) state 1 caller_count
 
 abbrev pub after_callers : ℕ → ℕ → ℕ
-after_callers selectors state = state_after (after_caller selectors) state 1 callers
+after_callers selectors state = state_after (after_caller selectors) state 1 caller_count
 
 -- ---- edits: a phase of 200, each a batch of its own, of four kinds in turn
 
-abbrev pub edits : ℕ
-edits = 200
+abbrev pub edit_count : ℕ
+edit_count = 200
 
 -- the first parent of a class, as it was drawn from the script's number
 abbrev pub first_parent : ℕ → ℕ → ℕ
@@ -175,10 +175,10 @@ after_edit state edit = if edit % 4 == 2 then next_state (next_state state) else
 
 abbrev pub edit_lines : (ℕ → ℕ) → (ℕ → List ℕ) → ℕ → ℕ → ℕ → List Line
 edit_lines parents tuples classes selectors state =
-    Phase ∷ lines_in_turn (edit_line parents tuples classes selectors) after_edit state 0 edits
+    Phase ∷ lines_in_turn (edit_line parents tuples classes selectors) after_edit state 0 edit_count
 
 abbrev pub after_edits : ℕ → ℕ
-after_edits state = state_after after_edit state 0 edits
+after_edits state = state_after after_edit state 0 edit_count
 
 -- ---- the whole script
 

@@ -10,6 +10,7 @@ mod generated_calls;
 mod generated_classes;
 mod generated_definitions;
 mod generated_edits;
+mod generated_laws;
 mod generated_line;
 mod generated_script;
 mod generated_selectors;
@@ -39,6 +40,7 @@ mod writing;
 mod written;
 mod written_line;
 
+pub use generated_laws::generated_texts_are_scripts;
 pub use generated_script::make_script;
 pub use laws::{
     lines_have_one_spelling, names_keep_their_spellings, spellings_have_one_line,
