@@ -1,5 +1,4 @@
 use dt_graph::NoMemory;
-use std::alloc::{AllocError, AllocFailed};
 use std::io;
 
 /// Why a run ended early.
@@ -15,18 +14,6 @@ pub enum Fault {
 
 impl From<NoMemory> for Fault {
     fn from(_: NoMemory) -> Fault {
-        Fault::NoMemory
-    }
-}
-
-impl From<AllocError> for Fault {
-    fn from(_: AllocError) -> Fault {
-        Fault::NoMemory
-    }
-}
-
-impl<T: Drop> From<AllocFailed<T>> for Fault {
-    fn from(_: AllocFailed<T>) -> Fault {
         Fault::NoMemory
     }
 }

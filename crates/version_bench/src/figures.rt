@@ -1,5 +1,3 @@
-ghost use Rattle.std.specs.Prelude.{◌<◌, length};
-
 use crate::fault::Fault;
 use std::fmt;
 use std::rt::Clock;
@@ -24,31 +22,4 @@ impl fmt::Display for Thousandths {
 pub fn nanoseconds(rt: &impl Clock, start: &Instant) -> Result<u64, Fault> {
     let time = start.elapsed(rt)?;
     Ok(u64::try_from(time.as_nanos()).unwrap_or(u64::MAX))
-}
-
-/// The median, the least and the greatest of the figures of some rounds.
-#[derive(Clone, Copy)]
-pub struct Summary {
-    /// The one in the middle, or the upper one of the two.
-    pub median: Thousandths,
-    /// The least.
-    pub least: Thousandths,
-    /// The greatest.
-    pub greatest: Thousandths,
-}
-
-/// Sorts the figures, and sums them up.
-pub fn sum_up(figures: &mut [u64]) -> Summary
-    requires { 0 < length figures.old }
-{
-    figures.sort_unstable();
-    Summary {
-        median: Thousandths {
-            count: figures[figures.len() / 2],
-        },
-        least: Thousandths { count: figures[0] },
-        greatest: Thousandths {
-            count: figures[figures.len() - 1],
-        },
-    }
 }

@@ -3,6 +3,7 @@ use crate::fault::Fault;
 use crate::figures::nanoseconds;
 use crate::plain::plain_words;
 use crate::rows::{Rows, Unit};
+use dt_graph::NoMemory;
 use dt_version::{Limits, Store};
 use std::alloc::Global;
 use std::rt::Clock;
@@ -12,7 +13,7 @@ use std::time::Instant;
 const ROUNDS: u32 = 5;
 
 // Makes a store at the greatest limits, and lets it go.
-fn make_store(alloc: Global) -> Result<(), Fault> {
+fn make_store(alloc: Global) -> Result<(), NoMemory> {
     if let Some(limits) = Limits::new(256, 65_536, 1 << 31, 1 << 48) {
         let (_store, _seat) = Store::<Anything>::new(alloc, limits)?;
     }
@@ -20,7 +21,7 @@ fn make_store(alloc: Global) -> Result<(), Fault> {
 }
 
 // Makes as many plain words, and lets them go.
-fn make_plain(alloc: Global) -> Result<(), Fault> {
+fn make_plain(alloc: Global) -> Result<(), NoMemory> {
     let _words = plain_words(alloc, 65_536)?;
     Ok(())
 }

@@ -9,7 +9,7 @@ use dt_version::ReaderSeat;
 use std::marker::Brand;
 use std::sync::ledger::{Blank, Ledger};
 
-// A publish and so many polls, while this reader is inside, in this ledger.
+// A turn and so many polls, while this reader is inside, in this ledger.
 fn hold_all<L: Ledger>(
     blank: Blank,
     turner: &mut Turner<'_>,
@@ -28,7 +28,7 @@ fn hold_all<L: Ledger>(
         return 0;
     }
     seat.enter(&mut steps);
-    turner.publish();
+    turner.turn_many(1);
     let held = turner.poll_many(count);
     seat.leave(&mut steps);
     turner.poll_many(1);

@@ -36,20 +36,23 @@ use std::env;
 use std::process::ExitCode;
 use std::rt::{Clock, Env};
 use std::thread::Threads;
-use words::{Command, read_command};
+use words::Command;
 
-// The words after the program's name.
-fn given_words<R: Env + AllocGlobal>(rt: &R) -> Result<Vec<String>, Fault> {
-    let mut words = Vec::new(rt.alloc());
+// What the words after the program's name ask for.
+fn asked<R: Env + AllocGlobal>(rt: &R) -> Result<Option<Command>, Fault> {
+    let mut command = Some(Command::Count);
     for word in env::args(rt)?.skip(1) {
-        words.push(word)?;
+        command = match command {
+            Some(before) => before.and(&word),
+            None => None,
+        };
     }
-    Ok(words)
+    Ok(command)
 }
 
 // Does what the words ask for, and answers whether they ask for anything.
 fn run<R: Print + Clock + Env + Threads + Sync + AllocGlobal>(rt: &R) -> Result<bool, Fault> {
-    match read_command(&given_words(rt)?) {
+    match asked(rt)? {
         Some(Command::Count) => count(rt)?,
         Some(Command::Versions) => {
             time(rt)?;

@@ -1,15 +1,15 @@
 ghost use Rattle.std.specs.Prelude.{◌<◌, ◌≤◌, IfSome};
 
 use crate::addresses::Addresses;
-use crate::fault::Fault;
 use crate::layout::{BEFORE, LEAF, MIDDLE, TOP, leaf_word};
+use dt_graph::NoMemory;
 use std::alloc::Global;
 use std::sync::atomic::{AtomicU64, Ordering};
 
 // The same words and the same accesses as a store's, with nothing of `dt_version`: an index that a word gives is tested.
 
 /// Words that are 0, as many as a store of four readers has with so many pages.
-pub fn plain_words(alloc: Global, pages: u32) -> Result<Vec<AtomicU64>, Fault> {
+pub fn plain_words(alloc: Global, pages: u32) -> Result<Vec<AtomicU64>, NoMemory> {
     let count = BEFORE + 512 * u64::from(pages);
     let mut words = Vec::with_capacity(alloc, count as usize)?;
     for _ in 0..count {

@@ -1,4 +1,4 @@
-use crate::figures::{Summary, sum_up};
+use crate::figures::Thousandths;
 use dt_graph::NoMemory;
 use std::alloc::Global;
 use std::io;
@@ -44,16 +44,19 @@ impl Unit {
     }
 }
 
-// Prints a line, if there is a figure.
+// Prints a line of the median, the least and the greatest, if there is a figure.
 fn print_line(rt: &impl Print, metric: &str, unit: &str, figures: &mut [u64]) -> io::Result<()> {
     if figures.is_empty() {
         return Ok(());
     }
-    let Summary {
-        median,
-        least,
-        greatest,
-    } = sum_up(figures);
+    figures.sort_unstable();
+    let median = Thousandths {
+        count: figures[figures.len() / 2],
+    };
+    let least = Thousandths { count: figures[0] };
+    let greatest = Thousandths {
+        count: figures[figures.len() - 1],
+    };
     println!(rt; "versions | {metric} | {unit} | {median} | {least} | {greatest}")
 }
 

@@ -70,17 +70,6 @@ impl<'s> Turner<'s> {
         is_free
     }
 
-    /// Publishes the next version on the other root, if that is free. The answer is how often the version before was entered.
-    pub fn publish(&mut self) -> Option<u32>
-        ensures store { self.new.author.store ≡ self.old.author.store }
-    {
-        let Known::Free = self.kept else {
-            return None;
-        };
-        let version = self.version.checked_add(1)?;
-        Some(self.publish_free(version))
-    }
-
     // Publishes the next version, and polls the root before it; whether that is free then.
     fn turn(&mut self) -> bool
         requires free { self.old.kept ≡ known.Free }

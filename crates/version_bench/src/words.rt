@@ -9,19 +9,18 @@ pub enum Command {
     Store,
 }
 
-/// The command that the words after the program's name are; `None` where they are none.
-pub fn read_command(words: &[String]) -> Option<Command> {
-    let Some(word) = words.first() else {
-        return Some(Command::Count);
-    };
-    if words.len() > 1 {
-        return None;
+impl Command {
+    /// What is asked for by one word more, of those after the program's name; `None` where that is nothing.
+    pub fn and(self, word: &str) -> Option<Command> {
+        let Command::Count = self else {
+            return None;
+        };
+        if word == "versions" {
+            return Some(Command::Versions);
+        }
+        if word == "store" {
+            return Some(Command::Store);
+        }
+        None
     }
-    if word.as_str() == "versions" {
-        return Some(Command::Versions);
-    }
-    if word.as_str() == "store" {
-        return Some(Command::Store);
-    }
-    None
 }
