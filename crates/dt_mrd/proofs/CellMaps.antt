@@ -36,12 +36,3 @@ turns_step before now depth turns at turn below is put other =
     ap (λ (cells : Cells). turns_put cells depth (drop (at + 1) turns) other) (λ i q. put q i)
     ∙ ap (λ (t : Turn). turns_put before depth (t ∷ drop (at + 1) turns) other) (sym is)
     ∙ ap (λ (l : List Turn). turns_put before depth l other) (sym (drop_more turns at turn below))
-
--- one class further along the rows
-pub key_step : (rows : ℕ → Option KeptRow) (key now : Option ℕ) (classes : List ℕ) (at class : ℕ) → at < length classes → get_or classes at class ≡ class
-    → now ≡ key_of_next (next_in (row_at rows key) class)
-    → key_along rows now (drop (at + 1) classes) ≡ key_along rows key (drop at classes)
-key_step rows key now classes at class below is same =
-    ap (λ k. key_along rows k (drop (at + 1) classes)) same
-    ∙ ap (λ c. key_along rows key (c ∷ drop (at + 1) classes)) (sym is)
-    ∙ ap (λ (l : List ℕ). key_along rows key l) (sym (drop_more classes at class below))

@@ -1,6 +1,5 @@
 -- Where a row of indexes fits, class by class, and the lowest tag.
-use Rattle.std.proofs.Common.{◌≡◌, ◌≢◌, ◌==◌, ℕ, ◌+◌, ◌-◌, ◌*◌, ◌<◌, ◌≤◌, Bool, true, false, ◌&&◌, ◌||◌, not, List, [], ◌∷◌, length, inl, inr, refl, sym, ap, subst, ◌∙◌, arith, All, IsTrue}
-use Rattle.std.specs.List.{list_all}
+use Rattle.std.proofs.Common.{◌≡◌, ◌≢◌, ◌==◌, ℕ, ◌+◌, ◌-◌, ◌*◌, ◌<◌, ◌≤◌, Bool, true, false, ◌&&◌, ◌||◌, not, List, [], ◌∷◌, inl, inr, refl, sym, ap, ◌∙◌, arith}
 use Rattle.std.proofs.lemmas.Bool.{and_parts, and_from, not_from_false, eqb-true, eq-eqb, true≢false}
 use Rattle.dt_cells.specs.HeldLaws.{by_cases, or_true}
 use Rattle.dt_fit.specs.declared.geometry.Geometry.TheVariants.{Displacements}
@@ -8,7 +7,7 @@ use Rattle.dt_fit.specs.Fits.{fits, fits_untaken, IsLowest, SomePlace}
 use Rattle.dt_fit.specs.Laws.{ManyDisplacementsSuffice, LowestIsLeast}
 use Rattle.dt_mrd.specs.Placing.{HasRoom}
 use Rattle.dt_mrd.specs.Laying.{is_among, AreClasses}
-use Rattle.dt_mrd.specs.Midway.{FitsIn, IsLowestIn, IsChosen, HasOtherRows}
+use Rattle.dt_mrd.specs.Midway.{IsLowestIn, IsChosen, HasOtherRows}
 
 not_true : (b : Bool) → not b ≡ true → b ≡ false
 not_true true e = absurd (true≢false (sym e))

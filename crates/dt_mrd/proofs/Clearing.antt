@@ -1,25 +1,21 @@
 -- Before the first turn: of every row that a batch touches what isn't used any more is taken away.
-use Rattle.std.proofs.Common.{◌≡◌, ◌≢◌, ◌==◌, ℕ, suc, ◌+◌, ◌-◌, ◌*◌, ◌<◌, Bool, true, false, ◌&&◌, ◌||◌, not, List, ◌⊎◌, inl, inr, refl, sym, ap, subst, ◌∙◌, arith, if◌then◌else◌}
+use Rattle.std.proofs.Common.{◌≡◌, ◌≢◌, ◌==◌, ℕ, suc, ◌+◌, ◌-◌, ◌*◌, Bool, true, false, ◌&&◌, ◌||◌, not, ◌⊎◌, inl, inr, refl, sym, ap, subst, ◌∙◌, arith}
 use Rattle.std.proofs.lemmas.Bool.{and_parts, and_from, or_left, or_right, not_from_false, eqb-true, eq-eqb, true≢false}
 use Rattle.dt_pages.specs.Reading.{Reading}
 use Rattle.dt_cells.specs.Held.{Held, Row}
 use Rattle.dt_cells.specs.HeldLaws.{by_cases, or_true}
-use Rattle.dt_placing.specs.Turn.{Laid}
 use Rattle.dt_mrd.specs.Rows.{HasIndex, IsRow}
 use Rattle.dt_mrd.specs.Reading.{owns, cell_at, tag_read}
 use Rattle.dt_mrd.specs.ReadingLaws.{row_of, index_in_range, owned_cell}
-use Rattle.dt_mrd.specs.Placing.{IsTabled, HasRoom, Shows, Rows, code_of}
+use Rattle.dt_mrd.specs.Placing.{Shows, Rows, code_of}
 use Rattle.dt_mrd.specs.MrdLaws.{small_code}
 use Rattle.dt_mrd.specs.Kept.{AreUsed, AreTaken}
-use Rattle.dt_mrd.specs.Midway.{HasNow, IsNow, tag_now, code_now, Midway, Touches, HasLeft, IsLeft, Cleared, WasRowOf, TakenAway}
+use Rattle.dt_mrd.specs.Midway.{HasNow, IsNow, Midway, Touches, HasLeft, IsLeft, Cleared, WasRowOf, TakenAway}
 use Rattle.dt_mrd.proofs.Midway.{word_tag}
 
 not_true : (b : Bool) → not b ≡ true → b ≡ false
 not_true true e = absurd (true≢false (sym e))
 not_true false e = refl
-
-no_zero : (n : ℕ) → (suc n == 0) ≡ false
-no_zero n = by_cases (suc n == 0) (λ t. let e : suc n ≡ 0 = eqb-true (suc n) 0 t in absurd (omega (arith, e))) (λ f. f)
 
 module _ (x : Reading) (held next : Held) (after : Row → ℕ) (sh : Shows x held) where
   abbrev rows : Rows

@@ -1,8 +1,7 @@
 -- Which displacements are taken, and what the loops over the indexes of a row come to.
-use Rattle.std.proofs.Common.{◌≡◌, ◌≢◌, ◌==◌, ℕ, suc, ◌+◌, ◌-◌, ◌<◌, ◌≤◌, Bool, true, false, ◌&&◌, ◌||◌, not, List, [], ◌∷◌, ◌⊎◌, inl, inr, refl, sym, ap, subst, ◌∙◌, arith, All}
-use Rattle.std.proofs.lemmas.Bool.{and_from, and_parts, or_left, or_right, eqb-true, eq-eqb, true≢false}
+use Rattle.std.proofs.Common.{◌≡◌, ◌≢◌, ◌==◌, ℕ, suc, ◌+◌, ◌-◌, ◌<◌, Bool, true, false, ◌&&◌, ◌||◌, not, List, [], ◌∷◌, inl, inr, refl, sym, ap, ◌∙◌, arith}
+use Rattle.std.proofs.lemmas.Bool.{and_parts, or_left, or_right, eqb-true, eq-eqb, true≢false}
 use Rattle.std.proofs.lemmas.List.Elements.{All-nil, All-cons}
-use Rattle.dt_pages.specs.Reading.{Reading}
 use Rattle.dt_cells.specs.HeldLaws.{by_cases}
 use Rattle.dt_placing.specs.PlacingLaws.{lt_test}
 use Rattle.dt_placing.specs.Turn.{Laid}
@@ -63,17 +62,3 @@ laid_outside tag passes value before now within laid address out = elim (laid ad
       absurd (true≢false (sym (owned_if_read tag m.0 (lt_test (67108864 + (tag - 1 + m.0)) 134217728 (omega (arith, within, below)))) ∙ ap owns m.3 ∙ out)))
   | inr m ↦ m.1
 ]
-
--- where the tag stays nothing is cleared
-pub nothing_cleared : (at : ℕ → ℕ) (passes : ℕ → Bool) (d : ℕ → ℕ) (tag before : ℕ) → tag ≡ before → Laid at (λ class. passes class && not (tag == before)) (λ class. 0) 2048 d d
-nothing_cleared at passes d tag before e place = inr ((λ class below p. absurd (true≢false (sym (and_parts (passes class) (not (tag == before)) p).1 ∙ ap not (eq-eqb tag before e)))), refl)
-
--- where it doesn't all are
-pub all_cleared : (at : ℕ → ℕ) (passes : ℕ → Bool) (d now : ℕ → ℕ) (tag before : ℕ) → (tag == before) ≡ false → Laid at passes (λ class. 0) 2048 d now
-    → Laid at (λ class. passes class && not (tag == before)) (λ class. 0) 2048 d now
-all_cleared at passes d now tag before f laid = laid_same at passes (λ class. passes class && not (tag == before)) (λ class. 0) d now
-    (λ class. sym (ap (λ b. passes class && not b) f ∙ and_true (passes class))) laid
-  where
-    and_true : (b : Bool) → (b && true) ≡ b
-    and_true true = refl
-    and_true false = refl

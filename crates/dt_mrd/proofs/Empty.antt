@@ -1,5 +1,5 @@
 -- A value that keeps nothing stands for the empty reading.
-use Rattle.std.proofs.Common.{◌≡◌, ◌==◌, ℕ, ◌+◌, ◌≤◌, [], Bool, true, false, ◌&&◌, not, Option, None, length, get_or, inr, refl, sym, ap, ◌∙◌}
+use Rattle.std.proofs.Common.{◌≡◌, ◌==◌, ℕ, ◌+◌, ◌≤◌, [], Bool, true, false, ◌&&◌, not, None, length, get_or, inr, refl, sym, ◌∙◌}
 use Rattle.std.proofs.lemmas.Bool.{true≢false}
 use Rattle.dt_pages.specs.Reading.{blank}
 use Rattle.dt_cells.specs.Held.{none_held, Row}

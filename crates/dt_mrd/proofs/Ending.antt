@@ -1,15 +1,15 @@
 -- After the turns of all rows that a batch touches the rule of placing holds of every row.
-use Rattle.std.proofs.Common.{◌≡◌, ◌≢◌, ◌==◌, ℕ, ◌+◌, ◌-◌, ◌*◌, ◌<◌, Bool, true, false, List, ◌⊎◌, inl, inr, refl, sym, ap, subst, ◌∙◌, arith, if◌then◌else◌}
+use Rattle.std.proofs.Common.{◌≡◌, ℕ, ◌+◌, ◌*◌, Bool, true, false, List, inl, inr, refl, sym, ap, subst, ◌∙◌}
 use Rattle.std.proofs.lemmas.Bool.{true≢false}
 use Rattle.dt_pages.specs.Reading.{Reading}
 use Rattle.dt_scratch.specs.declared.reply.Change.{Change}
 use Rattle.dt_cells.specs.Regions.{place_of}
 use Rattle.dt_cells.specs.Held.{Held, Row, held_after, is_changed}
 use Rattle.dt_cells.specs.HeldLaws.{by_cases, if_true, if_false}
-use Rattle.dt_mrd.specs.Rows.{HasIndex, IsRow, comes_before}
-use Rattle.dt_mrd.specs.Reading.{owns, cell_at, tag_read}
+use Rattle.dt_mrd.specs.Rows.{HasIndex, IsRow}
+use Rattle.dt_mrd.specs.Reading.{cell_at, tag_read}
 use Rattle.dt_mrd.specs.ReadingLaws.{row_of}
-use Rattle.dt_mrd.specs.Placing.{IsTabled, HasRoom, Shows, Rows, Fits, IsPlaced, HasPlaceWord, rows_of, code_of, AreCells, Places}
+use Rattle.dt_mrd.specs.Placing.{IsTabled, HasRoom, Shows, Rows, Fits, IsPlaced, HasPlaceWord, rows_of, code_of, Places}
 use Rattle.dt_mrd.specs.MrdLaws.{small_code}
 use Rattle.dt_mrd.specs.Midway.{HasNow, IsNow, tag_now, code_now, Midway, Touches}
 use Rattle.dt_mrd.proofs.Midway.{not_itself, now_next, tag_done, tag_waits, word_tag, now_one}

@@ -1,5 +1,5 @@
 -- Rows that are kept elsewhere, or beside which others are given up, are kept still.
-use Rattle.std.proofs.Common.{◌≡◌, ℕ, ◌==◌, suc, ◌<◌, Bool, true, false, if◌then◌else◌, List, [], ◌∷◌, ◌++◌, get_or, length, Option, None, Some, is_some, Contains, ◌⊎◌, inl, inr, refl, sym, ap, subst, ◌∙◌, arith}
+use Rattle.std.proofs.Common.{◌≡◌, ℕ, ◌==◌, suc, true, if◌then◌else◌, List, [], ◌∷◌, ◌++◌, Option, None, Some, is_some, Contains, inl, inr, sym, ap, subst, ◌∙◌, arith}
 use Rattle.std.proofs.lemmas.Bool.{eqb-true, true≢false}
 use Rattle.std.proofs.lemmas.List.{append_assoc, append-nil}
 use Rattle.dt_cells.specs.Held.{Held, Row}
@@ -36,11 +36,6 @@ module _ (roots : List (Option ℕ)) (rows rows_then : ℕ → Option KeptRow) (
     row = λ row is. (let k = are.row row is in (k.0, k.1, key_stays row is ∙ k.2, same row k.0 is k.2 ∙ k.3, k.4));
     not_free = λ row key is e. none row key is (sym (key_stays row is) ∙ e);
   }
-
--- other keys may be free
-pub kept_beside_free : (roots : List (Option ℕ)) (rows : ℕ → Option KeptRow) (free free_then : List ℕ) (tags : Row → ℕ) (held : Held) → AreKept roots rows free tags held
-    → ((row : Row) (key : ℕ) → IsRow held row → key_of roots rows row ≡ Some key → Contains free_then key → ⊥) → AreKept roots rows free_then tags held
-kept_beside_free roots rows free free_then tags held are none = record { roots_are = are.roots_are; row = are.row; not_free = none }
 
 -- ---- where keys are given up
 

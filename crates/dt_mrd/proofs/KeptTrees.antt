@@ -1,18 +1,18 @@
 -- What is read from rows that are kept as a tree.
-use Rattle.std.proofs.Common.{◌≡◌, ◌≢◌, ◌==◌, ℕ, zero, suc, ◌+◌, ◌-◌, ◌<◌, ◌≤◌, Bool, true, false, if◌then◌else◌, List, [], ◌∷◌, ◌++◌, get_or, length, Option, None, Some, is_some, ◌⊎◌, inl, inr, refl, sym, ap, subst, ◌∙◌, arith}
+use Rattle.std.proofs.Common.{◌≡◌, ◌≢◌, ℕ, ◌-◌, ◌<◌, true, false, List, [], ◌∷◌, ◌++◌, get_or, Option, None, Some, is_some, ◌⊎◌, inl, inr, refl, sym, ap, subst, ◌∙◌, arith}
 use Rattle.std.proofs.lemmas.Bool.{true≢false}
 use Rattle.std.proofs.lemmas.List.{append_assoc, append-nil}
-use Rattle.dt_cells.specs.Held.{Held, IsHeld, Row}
+use Rattle.dt_cells.specs.Held.{Held, Row}
 use Rattle.dt_cells.specs.HeldLaws.{by_cases, if_true, if_false}
 use Rattle.dt_scratch.specs.declared.reply.Answer.{Answer}
 use Rattle.dt_placing.specs.Rows.{is_understood}
 use Rattle.dt_mrd.specs.declared.kept_row.KeptRow.{KeptRow}
 use Rattle.dt_mrd.specs.declared.kept_row.Next.{Next}
 use Rattle.dt_mrd.specs.declared.kept_row.Next.TheVariants.{Answer as LeadsToAnswer, Row as LeadsToRow}
-use Rattle.dt_mrd.specs.Rows.{sent, root, next_row, HasIndex, IsRow}
-use Rattle.dt_mrd.specs.ReadingLaws.{row_of, next_is_row, row_not_held, index_in_range}
+use Rattle.dt_mrd.specs.Rows.{sent, next_row, HasIndex, IsRow}
+use Rattle.dt_mrd.specs.ReadingLaws.{row_of, next_is_row, index_in_range}
 use Rattle.dt_mrd.specs.Placing.{IsTabled, HasRoom, code_of_answer, code_of}
-use Rattle.dt_mrd.specs.Kept.{row_at, tag_in, next_in, code_in, key_of_next, key_along, key_of, IsKept, HasRoot, AreKept}
+use Rattle.dt_mrd.specs.Kept.{row_at, tag_in, next_in, code_in, key_of_next, key_along, key_of, AreKept}
 use Rattle.dt_mrd.specs.Laying.{has_cell, HasClasses}
 
 none_if : {T : Type 0} (o : Option T) → is_some o ≡ false → o ≡ None
@@ -39,10 +39,6 @@ pub key_next : (roots : List (Option ℕ)) (rows : ℕ → Option KeptRow) (row 
 key_next roots rows row class = along_snoc rows (get_or roots row.0 None) row.1 class
 
 module _ (roots : List (Option ℕ)) (rows : ℕ → Option KeptRow) (free : List ℕ) (tags : Row → ℕ) (held : Held) (tabled : IsTabled held) (are : AreKept roots rows free tags held) where
-  -- a row has a key
-  pub row_key : (row : Row) → IsRow held row → (key : ℕ) × (key_of roots rows row ≡ Some key)
-  row_key row is = let k = are.row row is in (k.0, k.2)
-
   row_is : (row : Row) (is : IsRow held row) → row_at rows (key_of roots rows row) ≡ Some (are.row row is).1
   row_is row is = let k = are.row row is in ap (row_at rows) k.2 ∙ k.3
 

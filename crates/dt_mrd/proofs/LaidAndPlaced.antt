@@ -1,12 +1,12 @@
 -- A stage from the laying of rows on: what is laid may be placed, and what was placed follows.
-use Rattle.std.proofs.Common.{◌≡◌, ◌≢◌, ℕ, ◌+◌, ◌<◌, Bool, true, false, ◌||◌, List, [], get_or, length, Option, None, refl, sym, ap, subst, ◌∙◌, arith}
+use Rattle.std.proofs.Common.{◌≡◌, ◌≢◌, ℕ, ◌+◌, ◌<◌, true, false, List, get_or, length, None, sym, ap, subst, ◌∙◌, arith}
 use Rattle.std.proofs.lemmas.Bool.{or_parts, true≢false}
 use Rattle.slab.specs.Slab.{get}
 use Rattle.dt_pages.specs.Reading.{Reading}
 use Rattle.dt_scratch.specs.declared.reply.Change.{Change}
 use Rattle.dt_cells.specs.Regions.{place_of}
 use Rattle.dt_cells.specs.Held.{Held, Row, held_after, is_changed, is_changed_place, IsStageable}
-use Rattle.dt_cells.specs.HeldLaws.{by_cases, changed_place}
+use Rattle.dt_cells.specs.HeldLaws.{changed_place}
 use Rattle.dt_cells.specs.Kind.{sets}
 use Rattle.dt_fit.specs.Cells.{is_tried}
 use Rattle.dt_mrd.specs.declared.staged.StagedRoot.{StagedRoot}

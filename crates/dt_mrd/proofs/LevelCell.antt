@@ -2,9 +2,8 @@
 use Rattle.std.proofs.Common.{◌≡◌, ℕ, Bool, true, false, if◌then◌else◌, List, [], ◌∷◌, ◌++◌, Option, Some, None, ◌⊎◌, inl, inr, refl, sym, ap, subst, ◌∙◌}
 use Rattle.std.proofs.lemmas.Bool.{true≢false}
 use Rattle.dt_scratch.specs.declared.reply.Answer.{Answer}
-use Rattle.dt_scratch.specs.declared.reply.Answer.TheVariants.{NotUnderstood}
 use Rattle.dt_scratch.specs.declared.reply.Change.{Change}
-use Rattle.dt_cells.specs.Held.{Held, IsHeld}
+use Rattle.dt_cells.specs.Held.{Held}
 use Rattle.dt_cells.specs.HeldLaws.{by_cases, if_true, if_false}
 use Rattle.dt_placing.specs.Rows.{is_understood}
 use Rattle.dt_mrd.specs.declared.kept_row.Next.{Next}
@@ -12,7 +11,7 @@ use Rattle.dt_mrd.specs.declared.kept_row.Next.TheVariants.{Answer as LeadsToAns
 use Rattle.dt_mrd.specs.Rows.{sent, IsRow}
 use Rattle.dt_mrd.specs.Placing.{IsTabled, code_of_answer}
 use Rattle.dt_mrd.specs.Kept.{key_of_next}
-use Rattle.dt_mrd.specs.Changing.{is_answer, is_row}
+use Rattle.dt_mrd.specs.Changing.{is_answer}
 use Rattle.dt_mrd.specs.ReadingLaws.{row_not_held}
 use Rattle.dt_mrd.proofs.LevelPuts.{cell_changed, cell_led}
 
@@ -62,8 +61,11 @@ IsMid next s p class old mid =
 pub mid_changed : (next : Held) (s : ℕ) (p : List ℕ) (class : ℕ) (old mid : Option Next) (change : Change)
     → answer_at next s p class ≡ change.answer → mid ≡ cell_changed change old → IsMid next s p class old mid
 mid_changed next s p class old mid change answer is = by_cases (is_understood change.answer)
-    (λ t. inl (ap is_understood answer ∙ t, is ∙ if_true (is_understood change.answer) (Some (LeadsToAnswer (code_of_answer change.answer))) (if is_answer old then None else old) t
-    ∙ ap (λ a. Some (LeadsToAnswer (code_of_answer a))) (sym answer)))
+    (λ t. inl (
+      ap is_understood answer ∙ t,
+      is ∙ if_true (is_understood change.answer) (Some (LeadsToAnswer (code_of_answer change.answer))) (if is_answer old then None else old) t
+          ∙ ap (λ a. Some (LeadsToAnswer (code_of_answer a))) (sym answer),
+    ))
     (λ f. (let left : mid ≡ (if is_answer old then None else old)
     = is ∙ if_false (is_understood change.answer) (Some (LeadsToAnswer (code_of_answer change.answer))) (if is_answer old then None else old) f in
     inr (ap is_understood answer ∙ f, ap is_answer left ∙ (rest old).0, ap key_of_next left ∙ (rest old).1)))
@@ -114,10 +116,12 @@ end_same held next tabled tabled_next s p class old mid end cell is e same = sub
     no_key (Some (LeadsToAnswer code)) cell t = refl
     no_key (Some (LeadsToRow key)) cell t =
         absurd (true≢false (sym t ∙ row_not_held next s p class tabled_next (row_after held next s (p ++ (class ∷ [])) same cell.1)))
+
     none_before : (old : Option Next) → IsCell held s p class old → None ≡ key_of_next old → LeadsOn held s p class → ⊥
     none_before None cell k on = cell.1 on
     none_before (Some (LeadsToAnswer code)) cell k on = true≢false (sym cell.0 ∙ row_not_held held s p class tabled on)
     none_before (Some (LeadsToRow key)) cell k on = true≢false (ap is_none k)
+
     without : (mid : Option Next) → is_understood (answer_at next s p class) ≡ false → is_answer mid ≡ false → key_of_next mid ≡ key_of_next old → IsEnd next s p class mid (key_of_next old)
     without None f a k = ((f, λ on. none_before old cell k (row_before held next s (p ++ (class ∷ [])) same on)), k)
     without (Some (LeadsToAnswer code)) f a k = absurd (true≢false a)

@@ -1,12 +1,12 @@
 -- The changes of a batch in the order of their queries, and what is held after them.
-use Rattle.std.proofs.Common.{◌≡◌, ◌≢◌, ◌==◌, ℕ, ◌<◌, Bool, true, false, cond, ◌&&◌, List, [], ◌∷◌, length, ◌⊎◌, inl, inr, refl, sym, ap, subst, ◌∙◌, arith}
+use Rattle.std.proofs.Common.{◌≡◌, ◌≢◌, ◌==◌, ℕ, ◌<◌, Bool, true, false, cond, ◌&&◌, List, [], ◌∷◌, length, ◌⊎◌, inl, inr, refl, ap, subst, ◌∙◌, arith}
 use Rattle.std.specs.Prelude.{nat_eq, nat_lt}
 use Rattle.std.specs.Ordering.{nat_cmp, ordering_then}
 use Rattle.std.specs.Cmp.Lexicographic.{slice_cmp}
 use Rattle.std.specs.List.Sorted.{IsStrictlySortedBy}
 use Rattle.std.specs.declared.cmp.Ordering.{Ordering}
 use Rattle.std.specs.declared.cmp.Ordering.TheVariants.{Less, Equal, Greater}
-use Rattle.std.proofs.lemmas.Bool.{and_parts, and_from, or_left, or_right, eqb-true, eq-eqb, true≢false}
+use Rattle.std.proofs.lemmas.Bool.{and_parts, and_from, or_left, or_right, eqb-true, eq-eqb}
 use Rattle.std.proofs.lemmas.Map.Keys.{sorted_tail}
 use Rattle.std.proofs.lemmas.Map.Views.{All-after_first}
 use lib.Pointwise.{pointwise}
@@ -48,24 +48,25 @@ sooner_of : (a b : Change) → order a b ≡ Less → IsSooner a b
 sooner_of a b e = elim (then_less a.query.selector b.query.selector (ordering_then (nat_cmp (arity_of_query a.query) (arity_of_query b.query)) (slice_cmp nat_cmp a.query.classes b.query.classes)) e) [
   | inl less ↦ inl less
   | inr same ↦ elim (then_less (arity_of_query a.query) (arity_of_query b.query) (slice_cmp nat_cmp a.query.classes b.query.classes) same.1) [
-      | inl less ↦ inr (same.0, inl less)
-      | inr also ↦ inr (same.0, inr (also.0, classes_below a.query.classes b.query.classes also.1))
-    ]
+    | inl less ↦ inr (same.0, inl less)
+    | inr also ↦ inr (same.0, inr (also.0, classes_below a.query.classes b.query.classes also.1))
+  ]
 ]
 
 pub in_turn_of : (changes : List Change) → IsStrictlySortedBy order changes → AreInTurn changes
 in_turn_of [] sorted = tt
 in_turn_of (first ∷ changes) sorted = (
-    λ change has. sooner_of first change (all_has (λ (other : Change). order first other ≡ Less) changes (All-after_first order first changes sorted) change has),
-    in_turn_of changes (sorted_tail order first changes sorted))
+  λ change has. sooner_of first change (all_has (λ (other : Change). order first other ≡ Less) changes (All-after_first order first changes sorted) change has),
+  in_turn_of changes (sorted_tail order first changes sorted),
+)
 
 sooner_differs : (a b : Change) → IsSooner a b → a.query ≢ b.query
 sooner_differs a b sooner same = elim sooner [
   | inl less ↦ (let e : a.query.selector ≡ b.query.selector = ap (λ (q : Query). q.selector) same in omega (arith, less, e))
   | inr later ↦ elim later.1 [
-      | inl less ↦ (let e : length a.query.classes ≡ length b.query.classes = ap (λ (q : Query). length q.classes) same in omega (arith, less, e))
-      | inr below ↦ below_differs a.query.classes b.query.classes below.1 (ap (λ (q : Query). q.classes) same)
-    ]
+    | inl less ↦ (let e : length a.query.classes ≡ length b.query.classes = ap (λ (q : Query). length q.classes) same in omega (arith, less, e))
+    | inr below ↦ below_differs a.query.classes b.query.classes below.1 (ap (λ (q : Query). q.classes) same)
+  ]
 ]
 
 query_itself : (q : Query) → is_same_query q q ≡ true

@@ -1,5 +1,5 @@
 -- Which key a row has where those of some rows are new.
-use Rattle.std.proofs.Common.{◌≡◌, ◌≢◌, ℕ, suc, ◌<◌, Bool, true, false, if◌then◌else◌, List, [], ◌∷◌, ◌++◌, length, take, get_or, Option, Some, None, ◌⊎◌, inl, inr, refl, sym, ap, subst, ◌∙◌, arith}
+use Rattle.std.proofs.Common.{◌≡◌, ◌≢◌, ℕ, suc, Bool, true, false, if◌then◌else◌, List, [], ◌∷◌, ◌++◌, length, take, get_or, Option, Some, None, ◌⊎◌, inl, inr, refl, sym, ap, subst, ◌∙◌, arith}
 use Rattle.std.proofs.lemmas.Bool.{true≢false}
 use Rattle.std.proofs.lemmas.List.{append_assoc, take_all}
 use Rattle.dt_cells.specs.Held.{Held}
@@ -8,7 +8,7 @@ use Rattle.dt_placing.specs.Rows.{is_understood}
 use Rattle.dt_mrd.specs.declared.kept_row.Next.{Next}
 use Rattle.dt_mrd.specs.declared.kept_row.Next.TheVariants.{Answer as LeadsToAnswer, Row as LeadsToRow}
 use Rattle.dt_mrd.specs.declared.turn.Turn.{Turn}
-use Rattle.dt_mrd.specs.Rows.{sent, IsRow}
+use Rattle.dt_mrd.specs.Rows.{sent}
 use Rattle.dt_mrd.specs.Placing.{code_of_answer}
 use Rattle.dt_mrd.specs.Kept.{row_at, next_in}
 use Rattle.dt_mrd.specs.Levels.{KeptAt, prefix_of}
@@ -17,7 +17,7 @@ use Rattle.dt_mrd.proofs.TurnLists.{row_same, same_row}
 use Rattle.dt_mrd.proofs.LevelLists.{Has}
 use Rattle.dt_mrd.proofs.LevelOrder.{Ascends, below_differs, take_next}
 use Rattle.dt_mrd.proofs.LevelPuts.{turn_query}
-use Rattle.dt_mrd.proofs.LevelCell.{answer_at, LeadsOn, IsCell, IsSameBelow, row_after, row_before}
+use Rattle.dt_mrd.proofs.LevelCell.{IsCell, IsSameBelow, row_after, row_before}
 use Rattle.dt_mrd.proofs.LevelRow.{IsAt}
 
 abbrev is_same : List ℕ → List ℕ → Bool
@@ -41,9 +41,9 @@ of_prefix depth (first ∷ turns) p = by_cases (is_same (prefix_of depth first.q
     (λ f. elim (of_prefix depth turns p) [
       | inl found ↦ inl (found.0, inr found.1, found.2)
       | inr none ↦ inr (λ turn has. elim has [
-          | inl is ↦ subst (λ (t : Turn). prefix_of depth t.query ≢ p) is (λ same. true≢false (sym (list_same (prefix_of depth first.query) p same) ∙ f))
-          | inr later ↦ none turn later
-        ])
+        | inl is ↦ subst (λ (t : Turn). prefix_of depth t.query ≢ p) is (λ same. true≢false (sym (list_same (prefix_of depth first.query) p same) ∙ f))
+        | inr later ↦ none turn later
+      ])
     ])
 
 -- the new key of the turn of the row, if there is one

@@ -1,5 +1,5 @@
 -- What a list has, part by part.
-use Rattle.std.proofs.Common.{◌≡◌, ℕ, zero, suc, ◌+◌, ◌<◌, List, [], ◌∷◌, ◌++◌, length, take, drop, get_or, All, Contains, ◌⊎◌, inl, inr, refl, sym, ap, subst, ◌∙◌, arith}
+use Rattle.std.proofs.Common.{◌≡◌, ℕ, zero, suc, ◌<◌, List, [], ◌∷◌, ◌++◌, length, take, drop, get_or, All, Contains, ◌⊎◌, inl, inr, refl, subst, arith}
 
 -- the list has the item
 abbrev pub Has : {T : Type 0} → List T → T → Type 0

@@ -1,6 +1,5 @@
 -- Items in the order of the first classes of their queries.
-use Rattle.std.proofs.Common.{◌≡◌, ◌≢◌, ◌==◌, ℕ, zero, suc, ◌<◌, Bool, true, false, ◌&&◌, ◌||◌, List, [], ◌∷◌, ◌++◌, length, take, drop, get_or, Option, Some, None, ◌⊎◌, inl, inr, refl, sym, ap, subst, ◌∙◌, arith}
-use Rattle.std.specs.Prelude.{nat_lt}
+use Rattle.std.proofs.Common.{◌≡◌, ◌≢◌, ℕ, zero, suc, ◌<◌, Bool, true, false, List, [], ◌∷◌, ◌++◌, length, take, drop, get_or, Option, Some, None, ◌⊎◌, inl, inr, refl, sym, ap, subst, ◌∙◌, arith}
 use Rattle.std.proofs.lemmas.Bool.{true≢false}
 use Rattle.std.proofs.lemmas.Bool.Decides.{nat_tests}
 use Rattle.dt_scratch.specs.Query.{Query}
@@ -8,9 +7,9 @@ use Rattle.dt_scratch.specs.declared.reply.Change.{Change}
 use Rattle.dt_cells.specs.HeldLaws.{by_cases, if_true, if_false}
 use Rattle.dt_mrd.specs.declared.turn.Turn.{Turn}
 use Rattle.dt_mrd.specs.Rows.{is_below}
-use Rattle.dt_mrd.specs.Levels.{prefix_of, earlier, first_of, StopsAt, IsRun}
+use Rattle.dt_mrd.specs.Levels.{prefix_of, first_of, StopsAt, IsRun}
 use Rattle.dt_mrd.proofs.Order.{first_by, first_strict, below_strict, below_total}
-use Rattle.dt_mrd.proofs.LevelLists.{Has, all_has, of_drop}
+use Rattle.dt_mrd.proofs.LevelLists.{Has, of_drop}
 
 -- ---- lists of classes
 
@@ -27,9 +26,6 @@ below_then [] (o ∷ os) [] less past = absurd (true≢false past)
 below_then [] (o ∷ os) (k ∷ ks) less past = refl
 below_then (x ∷ xs) (o ∷ os) [] less past = absurd (true≢false past)
 below_then (x ∷ xs) (o ∷ os) (k ∷ ks) less past = first_then x o k (is_below xs os) (is_below ks os) (is_below xs ks) (below_then xs os ks) less past
-
-pub below_after : (a b c : List ℕ) → is_below a b ≡ true → is_below b c ≡ true → is_below a c ≡ true
-below_after a b c less more = below_then a b c less (below_strict b c more)
 
 -- at or after one that is at or after another
 pub not_below : (a b c : List ℕ) → is_below b a ≡ false → is_below c b ≡ false → is_below c a ≡ false
@@ -154,8 +150,10 @@ first_least depth changes led query e up up_led = (λ change has. (least changes
       | inl is ↦ subst (λ (i : _). is_below (prefix_of depth (query i)) (prefix_of depth (query first)) ≡ false) is (not_itself (prefix_of depth (query first)))
       | inr later ↦ up.0 item later
     ]
+
     to : (other query : Query) (l : List ℕ) → value other (Some other) ≡ value other (Some query) → is_below l (prefix_of depth other) ≡ false → is_below l (prefix_of depth query) ≡ false
     to other query l same b = subst (λ (q : Query). is_below l (prefix_of depth q) ≡ false) same b
+
     least : (changes : List Change) (led : List Turn) → Rises change_query depth changes → Rises turn_query depth led → first_of depth changes led ≡ Some query
         → ((change : Change) → Has changes change → is_below (prefix_of depth change.query) (prefix_of depth query) ≡ false)
         × ((turn : Turn) → Has led turn → is_below (prefix_of depth turn.query) (prefix_of depth query) ≡ false)
@@ -163,11 +161,13 @@ first_least depth changes led query e up up_led = (λ change has. (least changes
     least [] (turn ∷ led) up up_led e = (λ c has. absurd has, λ t has. to turn.query query (prefix_of depth t.query) (ap (value turn.query) e) (head_least turn_query depth turn led up_led t has))
     least (change ∷ changes) [] up up_led e = (λ c has. to change.query query (prefix_of depth c.query) (ap (value change.query) e) (head_least change_query depth change changes up c has), λ t has. absurd has)
     least (change ∷ changes) (turn ∷ led) up up_led e = by_cases (is_below (prefix_of depth turn.query) (prefix_of depth change.query))
-        (λ t. (let same : turn.query ≡ query = sym (if_true (is_below (prefix_of depth turn.query) (prefix_of depth change.query)) turn.query change.query t) ∙ ap (value change.query) e in
-        (λ c has. to turn.query query (prefix_of depth c.query) same (not_below (prefix_of depth turn.query) (prefix_of depth change.query) (prefix_of depth c.query)
-        (below_strict (prefix_of depth turn.query) (prefix_of depth change.query) t) (head_least change_query depth change changes up c has)),
-        λ u has. to turn.query query (prefix_of depth u.query) same (head_least turn_query depth turn led up_led u has))))
-        (λ f. (let same : change.query ≡ query = sym (if_false (is_below (prefix_of depth turn.query) (prefix_of depth change.query)) turn.query change.query f) ∙ ap (value change.query) e in
-        (λ c has. to change.query query (prefix_of depth c.query) same (head_least change_query depth change changes up c has),
-        λ u has. to change.query query (prefix_of depth u.query) same (not_below (prefix_of depth change.query) (prefix_of depth turn.query) (prefix_of depth u.query)
-        f (head_least turn_query depth turn led up_led u has)))))
+        (λ t. (let same : turn.query ≡ query = sym (if_true (is_below (prefix_of depth turn.query) (prefix_of depth change.query)) turn.query change.query t) ∙ ap (value change.query) e in (
+          λ c has. to turn.query query (prefix_of depth c.query) same (not_below (prefix_of depth turn.query) (prefix_of depth change.query) (prefix_of depth c.query)
+              (below_strict (prefix_of depth turn.query) (prefix_of depth change.query) t) (head_least change_query depth change changes up c has)),
+          λ u has. to turn.query query (prefix_of depth u.query) same (head_least turn_query depth turn led up_led u has),
+        )))
+        (λ f. (let same : change.query ≡ query = sym (if_false (is_below (prefix_of depth turn.query) (prefix_of depth change.query)) turn.query change.query f) ∙ ap (value change.query) e in (
+          λ c has. to change.query query (prefix_of depth c.query) same (head_least change_query depth change changes up c has),
+          λ u has. to change.query query (prefix_of depth u.query) same (not_below (prefix_of depth change.query) (prefix_of depth turn.query) (prefix_of depth u.query)
+              f (head_least turn_query depth turn led up_led u has)),
+        )))

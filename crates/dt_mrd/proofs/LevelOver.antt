@@ -1,5 +1,5 @@
 -- The rows of one length of a selector: after their turns each is kept with the cells of what is held then.
-use Rattle.std.proofs.Common.{◌≡◌, ◌≢◌, ◌==◌, ℕ, zero, suc, ◌<◌, Bool, true, false, List, [], ◌∷◌, ◌++◌, length, take, drop, get_or, Option, Some, None, is_some, All, Contains, ◌⊎◌, inl, inr, refl, sym, ap, subst, ◌∙◌, arith}
+use Rattle.std.proofs.Common.{◌≡◌, ◌≢◌, ◌==◌, ℕ, suc, ◌<◌, true, false, List, [], ◌∷◌, ◌++◌, length, take, drop, get_or, Option, Some, None, is_some, Contains, ◌⊎◌, inl, inr, refl, sym, ap, subst, ◌∙◌, arith}
 use Rattle.std.proofs.lemmas.Bool.{eqb-true, eq-eqb, true≢false}
 use Rattle.std.proofs.lemmas.List.{append_assoc, append-nil, take_all}
 use Rattle.dt_scratch.specs.Query.{Query}
@@ -7,7 +7,6 @@ use Rattle.dt_scratch.specs.declared.reply.Change.{Change}
 use Rattle.dt_cells.specs.Held.{Held}
 use Rattle.dt_cells.specs.HeldLaws.{by_cases}
 use Rattle.dt_mrd.specs.declared.kept_row.KeptRow.{KeptRow}
-use Rattle.dt_mrd.specs.declared.kept_row.Next.{Next}
 use Rattle.dt_mrd.specs.declared.turn.Turn.{Turn}
 use Rattle.dt_mrd.specs.Rows.{sent, IsRow, is_below}
 use Rattle.dt_mrd.specs.Placing.{IsTabled}
@@ -15,9 +14,9 @@ use Rattle.dt_mrd.specs.Kept.{row_at, next_in, key_of_next, key_along}
 use Rattle.dt_mrd.specs.Changing.{Cells, class_at, changes_put, turns_put}
 use Rattle.dt_mrd.specs.Levels.{KeptAt, Extends, prefix_of, IsLaid, IsNextTurn, IsLevel}
 use Rattle.dt_mrd.proofs.LevelLists.{Has, all_has, in_parts, of_take, of_drop}
-use Rattle.dt_mrd.proofs.LevelOrder.{Ascends, Rises, rises_of, ascends_take, ascends_drop, after_run, first_is, first_least, below_differs, take_next, length_prefix}
+use Rattle.dt_mrd.proofs.LevelOrder.{Ascends, rises_of, ascends_take, ascends_drop, after_run, first_is, first_least, below_differs, take_next, length_prefix}
 use Rattle.dt_mrd.proofs.LevelPuts.{AreApart, change_query, turn_query}
-use Rattle.dt_mrd.proofs.LevelCell.{LeadsOn, IsCell, IsSameBelow}
+use Rattle.dt_mrd.proofs.LevelCell.{IsSameBelow}
 use Rattle.dt_mrd.proofs.LevelRow.{IsAt, IsRowGiven, row_laid, laid_cells, laid_at, still_at, at_still}
 use Rattle.dt_mrd.proofs.LevelSteps.{extends_none, extends_then, no_row_before}
 
@@ -33,8 +32,9 @@ at_end (x ∷ xs) class = at_end xs class
 
 ends_same : (n : ℕ) (a b : List ℕ) (x y : ℕ) → length a ≡ n → length b ≡ n → a ++ (x ∷ []) ≡ b ++ (y ∷ []) → (a ≡ b) × (x ≡ y)
 ends_same n a b x y long same_long e = (
-    sym (take_front a (x ∷ [])) ∙ ap (λ k. take k (a ++ (x ∷ []))) (long ∙ sym same_long) ∙ ap (λ (l : List ℕ). take (length b) l) e ∙ take_front b (y ∷ []),
-    sym (at_end a x) ∙ ap (λ k. get_or (a ++ (x ∷ [])) k 0) (long ∙ sym same_long) ∙ ap (λ (l : List ℕ). get_or l (length b) 0) e ∙ at_end b y)
+  sym (take_front a (x ∷ [])) ∙ ap (λ k. take k (a ++ (x ∷ []))) (long ∙ sym same_long) ∙ ap (λ (l : List ℕ). take (length b) l) e ∙ take_front b (y ∷ []),
+  sym (at_end a x) ∙ ap (λ k. get_or (a ++ (x ∷ [])) k 0) (long ∙ sym same_long) ∙ ap (λ (l : List ℕ). get_or l (length b) 0) e ∙ at_end b y,
+)
 
 pub prefix_parts : (depth : ℕ) (l p : List ℕ) (class : ℕ) → depth < length l → length p ≡ depth → take (suc depth) l ≡ p ++ (class ∷ []) → (take depth l ≡ p) × (get_or l depth 0 ≡ class)
 prefix_parts depth l p class long is e = ends_same depth (take depth l) p (get_or l depth 0) class (length_prefix depth l long) is (sym (take_next depth l long) ∙ e)
@@ -46,13 +46,16 @@ prefix_next depth l p long e = take_next depth l long ∙ ap (λ (q : List ℕ).
 apart_of : {T : Type 0} (query : T → Query) (depth : ℕ) (p : List ℕ) (items : List T) → Ascends query (suc depth) items
     → ((item : T) → Has items item → (prefix_of depth (query item) ≡ p) × (depth < length (query item).classes)) → AreApart query depth items
 apart_of query depth p [] up shape = tt
-apart_of query depth p (first ∷ items) up shape = (λ item has. by_cases (class_at (query item).classes depth == class_at (query first).classes depth)
-    (λ t. (let one = shape first (inl refl) in let other = shape item (inr has) in
-    absurd (below_differs (prefix_of (suc depth) (query first)) (prefix_of (suc depth) (query item)) (up.0 item has)
-    (prefix_next depth (query first).classes p one.1 one.0
-    ∙ ap (λ k. p ++ (k ∷ [])) (sym (eqb-true (class_at (query item).classes depth) (class_at (query first).classes depth) t))
-    ∙ sym (prefix_next depth (query item).classes p other.1 other.0)))))
-    (λ f. f), apart_of query depth p items up.1 (λ item has. shape item (inr has)))
+apart_of query depth p (first ∷ items) up shape = (
+  λ item has. by_cases (class_at (query item).classes depth == class_at (query first).classes depth)
+      (λ t. (let one = shape first (inl refl) in let other = shape item (inr has) in
+      absurd (below_differs (prefix_of (suc depth) (query first)) (prefix_of (suc depth) (query item)) (up.0 item has)
+      (prefix_next depth (query first).classes p one.1 one.0
+      ∙ ap (λ k. p ++ (k ∷ [])) (sym (eqb-true (class_at (query item).classes depth) (class_at (query first).classes depth) t))
+      ∙ sym (prefix_next depth (query item).classes p other.1 other.0)))))
+      (λ f. f),
+  apart_of query depth p items up.1 (λ item has. shape item (inr has)),
+)
 
 -- ---- keys
 
@@ -74,8 +77,7 @@ none_some : (row : Option KeptRow) → row ≡ None → is_some row ≡ true →
 none_some row none some = true≢false (sym some ∙ ap is_some none)
 
 module _ (held next : Held) (tabled : IsTabled held) (tabled_next : IsTabled next) (s : ℕ) (rows0 : KeptAt) (root : Option ℕ)
-  (old : (p : List ℕ) → IsAt rows0 (key_along rows0 root p) held s p) where
-
+    (old : (p : List ℕ) → IsAt rows0 (key_along rows0 root p) held s p) where
   abbrev pub Keeps : KeptAt → KeptAt → Type 0
   Keeps rows rows_then = (k : ℕ) → is_some (rows k) ≡ true → rows_then k ≡ rows k
 
@@ -144,8 +146,7 @@ module _ (held next : Held) (tabled : IsTabled held) (tabled_next : IsTabled nex
 
   -- the first row that waits has its turn
   module _ (target : List ℕ → Option ℕ) (depth : ℕ) (rows : KeptAt) (fresh : List ℕ) (done : List (List ℕ)) (changes : List Change) (led : List Turn) (given : IsLevelGiven target depth rows done changes led)
-    (count count_led : ℕ) (turn : Turn) (between : KeptAt) (fresh_between : List ℕ) (step : IsNextTurn root depth rows fresh changes led count count_led turn between fresh_between) where
-
+      (count count_led : ℕ) (turn : Turn) (between : KeptAt) (fresh_between : List ℕ) (step : IsNextTurn root depth rows fresh changes led count count_led turn between fresh_between) where
     abbrev row : List ℕ
     row = prefix_of depth step.query
 
@@ -284,21 +285,21 @@ module _ (held next : Held) (tabled : IsTabled held) (tabled_next : IsTabled nex
       led_target = λ other has. given.led_target other (of_drop count_led led other has);
       led_up = ascends_drop turn_query (suc depth) count_led led given.led_up;
       others = λ p class long waits none. given.others p class long (λ has. waits (inr has)) (λ change has same. elim (in_parts count changes change has) [
-          | inl own ↦ (let is = prefix_parts depth change.query.classes p class (change_long change own) long same in waits (inl (sym (own_row change own) ∙ is.0)))
-          | inr later ↦ none change later same
-        ]);
+        | inl own ↦ (let is = prefix_parts depth change.query.classes p class (change_long change own) long same in waits (inl (sym (own_row change own) ∙ is.0)))
+        | inr later ↦ none change later same
+      ]);
       others_led = λ p class long waits none. given.others_led p class long (λ has. waits (inr has)) (λ other has same. elim (in_parts count_led led other has) [
-          | inl own ↦ (let is = prefix_parts depth other.query.classes p class (led_long other own) long same in waits (inl (sym (own_led_row other own) ∙ is.0)))
-          | inr later ↦ none other later same
-        ]);
+        | inl own ↦ (let is = prefix_parts depth other.query.classes p class (led_long other own) long same in waits (inl (sym (own_led_row other own) ∙ is.0)))
+        | inr later ↦ none other later same
+      ]);
       above = λ d has change later. elim has [
-          | inl is ↦ subst (λ (l : List ℕ). is_below l (prefix_of depth change.query) ≡ true) is (after_own change later)
-          | inr before ↦ given.above d before change (of_drop count changes change later)
-        ];
+        | inl is ↦ subst (λ (l : List ℕ). is_below l (prefix_of depth change.query) ≡ true) is (after_own change later)
+        | inr before ↦ given.above d before change (of_drop count changes change later)
+      ];
       above_led = λ d has other later. elim has [
-          | inl is ↦ subst (λ (l : List ℕ). is_below l (prefix_of depth other.query) ≡ true) is (after_own_led other later)
-          | inr before ↦ given.above_led d before other (of_drop count_led led other later)
-        ];
+        | inl is ↦ subst (λ (l : List ℕ). is_below l (prefix_of depth other.query) ≡ true) is (after_own_led other later)
+        | inr before ↦ given.above_led d before other (of_drop count_led led other later)
+      ];
     }
 
     -- it comes before those
@@ -307,51 +308,51 @@ module _ (held next : Held) (tabled : IsTabled held) (tabled_next : IsTabled nex
     step_level level rows_then fresh_then rest = record {
       extends = extends_then rows between rows_then fresh fresh_between fresh_then step.extends rest.extends;
       each = λ other has. elim has [
-          | inl is ↦ subst (λ (t : Turn). IsOver target depth rows_then t) is (over_still target depth between rows_then turn rest.extends.kept step_over)
-          | inr later ↦ rest.each other later
-        ];
+        | inl is ↦ subst (λ (t : Turn). IsOver target depth rows_then t) is (over_still target depth between rows_then turn rest.extends.kept step_over)
+        | inr later ↦ rest.each other later
+      ];
       up = (λ other has. subst (λ (l : List ℕ). is_below l (prefix_of depth other.query) ≡ true) (sym row_is) (rest.above row (inl refl) other has), rest.up);
       above = λ d has other among. elim among [
-          | inl is ↦ subst (λ (t : Turn). is_below d (prefix_of depth t.query) ≡ true) is (subst (λ (l : List ℕ). is_below d l ≡ true) (sym row_is) (row_above d has))
-          | inr later ↦ rest.above d (inr has) other later
-        ];
+        | inl is ↦ subst (λ (t : Turn). is_below d (prefix_of depth t.query) ≡ true) is (subst (λ (l : List ℕ). is_below d l ≡ true) (sym row_is) (row_above d has))
+        | inr later ↦ rest.above d (inr has) other later
+      ];
       covers = λ change has. elim (in_parts count changes change has) [
-          | inl own ↦ (turn, inl refl, row_is ∙ sym (own_row change own))
-          | inr later ↦ (let found = rest.covers change later in (found.0, inr found.1, found.2))
-        ];
+        | inl own ↦ (turn, inl refl, row_is ∙ sym (own_row change own))
+        | inr later ↦ (let found = rest.covers change later in (found.0, inr found.1, found.2))
+      ];
       covers_led = λ other has. elim (in_parts count_led led other has) [
-          | inl own ↦ (turn, inl refl, row_is ∙ sym (own_led_row other own))
-          | inr later ↦ (let found = rest.covers_led other later in (found.0, inr found.1, found.2))
-        ];
+        | inl own ↦ (turn, inl refl, row_is ∙ sym (own_led_row other own))
+        | inr later ↦ (let found = rest.covers_led other later in (found.0, inr found.1, found.2))
+      ];
       of_query = λ other has. elim has [
-          | inl is ↦ subst (λ (t : Turn). ((change : Change) × Has changes change × (change.query ≡ t.query)) ⊎ ((u : Turn) × Has led u × (u.query ≡ t.query))) is
-              (elim (first_is depth changes led step.query step.first) [
-                | inl found ↦ inl (found.0, found.1, found.2 ∙ sym step.is.query_is)
-                | inr found ↦ inr (found.0, found.1, found.2 ∙ sym step.is.query_is)
-              ])
-          | inr later ↦ elim (rest.of_query other later) [
-              | inl found ↦ inl (found.0, of_drop count changes found.0 found.1, found.2)
-              | inr found ↦ inr (found.0, of_drop count_led led found.0 found.1, found.2)
-            ]
-        ];
+        | inl is ↦ subst (λ (t : Turn). ((change : Change) × Has changes change × (change.query ≡ t.query)) ⊎ ((u : Turn) × Has led u × (u.query ≡ t.query))) is
+            (elim (first_is depth changes led step.query step.first) [
+              | inl found ↦ inl (found.0, found.1, found.2 ∙ sym step.is.query_is)
+              | inr found ↦ inr (found.0, found.1, found.2 ∙ sym step.is.query_is)
+            ])
+        | inr later ↦ elim (rest.of_query other later) [
+          | inl found ↦ inl (found.0, of_drop count changes found.0 found.1, found.2)
+          | inr found ↦ inr (found.0, of_drop count_led led found.0 found.1, found.2)
+        ]
+      ];
       vacant = λ other k has e. elim has [
-          | inl is ↦ (laid_new rows between turn.new cells_then k laid (ap (λ (t : Turn). t.new) is ∙ e)).0
-          | inr later ↦ no_row_before (rows k) (between k) (step.extends.kept k) (rest.vacant other k later e)
-        ];
+        | inl is ↦ (laid_new rows between turn.new cells_then k laid (ap (λ (t : Turn). t.new) is ∙ e)).0
+        | inr later ↦ no_row_before (rows k) (between k) (step.extends.kept k) (rest.vacant other k later e)
+      ];
       apart = λ one other k has_one has_other e_one e_other. elim has_one [
-          | inl is ↦ elim has_other [
-              | inl same ↦ ap (λ (t : Turn). prefix_of depth t.query) (sym is ∙ same)
-              | inr later ↦ absurd (none_some (between k) (rest.vacant other k later e_other) (laid_new rows between turn.new cells_then k laid (ap (λ (t : Turn). t.new) is ∙ e_one)).1)
-            ]
-          | inr later ↦ elim has_other [
-              | inl same ↦ absurd (none_some (between k) (rest.vacant one k later e_one) (laid_new rows between turn.new cells_then k laid (ap (λ (t : Turn). t.new) same ∙ e_other)).1)
-              | inr also ↦ rest.apart one other k later also e_one e_other
-            ]
-        ];
+        | inl is ↦ elim has_other [
+          | inl same ↦ ap (λ (t : Turn). prefix_of depth t.query) (sym is ∙ same)
+          | inr later ↦ absurd (none_some (between k) (rest.vacant other k later e_other) (laid_new rows between turn.new cells_then k laid (ap (λ (t : Turn). t.new) is ∙ e_one)).1)
+        ]
+        | inr later ↦ elim has_other [
+          | inl same ↦ absurd (none_some (between k) (rest.vacant one k later e_one) (laid_new rows between turn.new cells_then k laid (ap (λ (t : Turn). t.new) same ∙ e_other)).1)
+          | inr also ↦ rest.apart one other k later also e_one e_other
+        ]
+      ];
       among = λ other k has e. elim has [
-          | inl is ↦ rest.extends.stays k (step.is.among k (ap (λ (t : Turn). t.new) is ∙ e))
-          | inr later ↦ rest.among other k later e
-        ];
+        | inl is ↦ rest.extends.stays k (step.is.among k (ap (λ (t : Turn). t.new) is ∙ e))
+        | inr later ↦ rest.among other k later e
+      ];
     }
 
   -- all rows of a level have their turns

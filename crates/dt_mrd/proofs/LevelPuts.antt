@@ -1,5 +1,5 @@
 -- What changes, and rows that had their turns, make of the cell of one class.
-use Rattle.std.proofs.Common.{◌≡◌, ◌==◌, ℕ, Bool, true, false, if◌then◌else◌, List, [], ◌∷◌, Option, Some, None, inl, inr, ◌⊎◌, refl, sym, ap, subst, ◌∙◌}
+use Rattle.std.proofs.Common.{◌≡◌, ◌==◌, ℕ, Bool, true, false, if◌then◌else◌, List, [], ◌∷◌, Option, Some, None, inl, inr, refl, sym, ap, subst, ◌∙◌}
 use Rattle.std.proofs.lemmas.Bool.{eqb-true, eq-eqb, true≢false}
 use Rattle.dt_scratch.specs.Query.{Query}
 use Rattle.dt_scratch.specs.declared.reply.Change.{Change}
@@ -54,6 +54,7 @@ lead_itself depth cells turn = go turn.new
         ≡ (if v then None else cells (class_at turn.query.classes depth))
     by_test true = put_itself cells (class_at turn.query.classes depth) None
     by_test false = refl
+
     go : (new : Option ℕ) → lead_put cells (class_at turn.query.classes depth) new (class_at turn.query.classes depth) ≡ cell_led new (cells (class_at turn.query.classes depth))
     go (Some key) = put_itself cells (class_at turn.query.classes depth) (Some (LeadsToRow key))
     go None = by_test (is_row (cells (class_at turn.query.classes depth)))
@@ -64,6 +65,7 @@ lead_other depth cells turn other e = go turn.new
     by_test : (v : Bool) → (if v then put_at cells (class_at turn.query.classes depth) None else cells) other ≡ cells other
     by_test true = put_other cells (class_at turn.query.classes depth) None other e
     by_test false = refl
+
     go : (new : Option ℕ) → lead_put cells (class_at turn.query.classes depth) new other ≡ cells other
     go (Some key) = put_other cells (class_at turn.query.classes depth) (Some (LeadsToRow key)) other e
     go None = by_test (is_row (cells (class_at turn.query.classes depth)))
@@ -81,9 +83,8 @@ module _ {T : Type 0} (query : T → Query) (depth : ℕ) where
   puts put cells (item ∷ items) = puts put (put cells item) items
 
   module _ (put : Cells → T → Cells) (result : T → Option Next → Option Next)
-    (itself : (cells : Cells) (item : T) → put cells item (class_at (query item).classes depth) ≡ result item (cells (class_at (query item).classes depth)))
-    (other : (cells : Cells) (item : T) (class : ℕ) → (class == class_at (query item).classes depth) ≡ false → put cells item class ≡ cells class) where
-
+      (itself : (cells : Cells) (item : T) → put cells item (class_at (query item).classes depth) ≡ result item (cells (class_at (query item).classes depth)))
+      (other : (cells : Cells) (item : T) (class : ℕ) → (class == class_at (query item).classes depth) ≡ false → put cells item class ≡ cells class) where
     pub puts_none : (cells : Cells) (items : List T) (class : ℕ) → ((item : T) → Has items item → (class == class_at (query item).classes depth) ≡ false)
         → puts put cells items class ≡ cells class
     puts_none cells [] class none = refl

@@ -1,5 +1,5 @@
 -- A row that had its turn: its cells are those of what is held after the changes.
-use Rattle.std.proofs.Common.{◌≡◌, ◌==◌, ℕ, Bool, true, false, List, [], ◌∷◌, ◌++◌, Option, Some, None, is_some, ◌⊎◌, inl, inr, refl, sym, ap, subst, ◌∙◌}
+use Rattle.std.proofs.Common.{◌≡◌, ◌==◌, ℕ, true, false, List, [], ◌∷◌, ◌++◌, Option, Some, None, is_some, ◌⊎◌, inl, inr, refl, sym, ap, subst, ◌∙◌}
 use Rattle.std.proofs.lemmas.Bool.{eqb-true, true≢false}
 use Rattle.dt_scratch.specs.Query.{Query}
 use Rattle.dt_scratch.specs.declared.reply.Change.{Change}
@@ -17,7 +17,7 @@ use Rattle.dt_mrd.specs.Changing.{Cells, class_at, changes_put, turns_put}
 use Rattle.dt_mrd.specs.Levels.{KeptAt, IsLaid}
 use Rattle.dt_mrd.specs.ReadingLaws.{row_of, index_before, next_is_row}
 use Rattle.dt_mrd.proofs.LevelLists.{Has}
-use Rattle.dt_mrd.proofs.LevelPuts.{AreApart, change_query, turn_query, cell_changed, cell_led, changes_none, changes_one, turns_none, turns_one}
+use Rattle.dt_mrd.proofs.LevelPuts.{AreApart, change_query, turn_query, changes_none, changes_one, turns_none, turns_one}
 use Rattle.dt_mrd.proofs.LevelCell.{answer_at, LeadsOn, IsCell, IsSameBelow, IsMid, IsEnd, mid_changed, mid_same, end_led, end_same}
 
 -- a row is kept under this key, or there is no key and it is no row
@@ -36,9 +36,9 @@ of_class query depth (first ∷ items) class = by_cases (class == class_at (quer
     (λ f. elim (of_class query depth items class) [
       | inl found ↦ inl (found.0, inr found.1, found.2)
       | inr none ↦ inr (λ item has. elim has [
-          | inl is ↦ subst (λ (i : _). (class == class_at (query i).classes depth) ≡ false) is f
-          | inr later ↦ none item later
-        ])
+        | inl is ↦ subst (λ (i : _). (class == class_at (query i).classes depth) ≡ false) is f
+        | inr later ↦ none item later
+      ])
     ])
 
 module _ (held next : Held) (tabled : IsTabled held) (tabled_next : IsTabled next) (s : ℕ) where
@@ -104,8 +104,10 @@ laid_at rows rows_then None cells held s p laid are = record {
 }
 laid_at rows rows_then (Some key) cells held s p laid are = record {
   cells = λ class. subst (λ (c : Option Next). IsCell held s p class c) (sym (laid_cells rows rows_then (Some key) cells laid class)) (are class);
-  there = λ k e. (cell_index held s p laid.some.0 (cells laid.some.0) (are laid.some.0) laid.some.1,
-      ap (λ n. is_some (rows_then (value key n))) (sym e) ∙ ap is_some laid.is);
+  there = λ k e. (
+    cell_index held s p laid.some.0 (cells laid.some.0) (are laid.some.0) laid.some.1,
+    ap (λ n. is_some (rows_then (value key n))) (sym e) ∙ ap is_some laid.is,
+  );
   none = λ e row. absurd (true≢false (ap is_some e));
 }
 

@@ -1,11 +1,11 @@
 -- The rows of a selector, level by level: after all turns each row stands under its key.
-use Rattle.std.proofs.Common.{◌≡◌, ◌≢◌, ◌==◌, ℕ, zero, suc, ◌+◌, ◌<◌, ◌≤◌, Bool, true, false, ◌&&◌, ◌||◌, List, [], ◌∷◌, ◌++◌, length, take, drop, get_or, Option, Some, None, is_some, All, Contains, ◌⊎◌, inl, inr, refl, sym, ap, subst, ◌∙◌, arith}
+use Rattle.std.proofs.Common.{◌≡◌, ◌≢◌, ◌==◌, ℕ, zero, suc, ◌<◌, ◌≤◌, true, ◌&&◌, ◌||◌, List, [], ◌∷◌, ◌++◌, length, take, drop, get_or, Option, Some, None, is_some, Contains, ◌⊎◌, inl, inr, refl, sym, ap, subst, ◌∙◌, arith}
 use Rattle.std.specs.Prelude.{nat_lt}
 use Rattle.std.proofs.lemmas.Bool.{and_from, or_left, or_right, eq-eqb, true≢false}
 use Rattle.std.proofs.lemmas.List.{append_assoc, take_all, length-append}
-use Rattle.dt_scratch.specs.Query.{Query, arity_of_query}
+use Rattle.dt_scratch.specs.Query.{arity_of_query}
 use Rattle.dt_scratch.specs.declared.reply.Change.{Change}
-use Rattle.dt_cells.specs.Held.{Held, Row}
+use Rattle.dt_cells.specs.Held.{Held}
 use Rattle.dt_placing.specs.PlacingLaws.{lt_test}
 use Rattle.dt_mrd.specs.declared.kept_row.KeptRow.{KeptRow}
 use Rattle.dt_mrd.specs.declared.turn.Turn.{Turn}
@@ -14,11 +14,11 @@ use Rattle.dt_mrd.specs.Placing.{IsTabled}
 use Rattle.dt_mrd.specs.Kept.{row_at, next_in, key_of_next, key_along}
 use Rattle.dt_mrd.specs.Levels.{KeptAt, Extends, prefix_of, IsLevel, IsBeforeArity, StartsAt, first_key, AreLevels}
 use Rattle.dt_mrd.proofs.LevelLists.{Has, all_has, in_parts, in_both, of_first, of_second, of_take, of_drop}
-use Rattle.dt_mrd.proofs.LevelOrder.{Ascends, below_differs, length_prefix, take_next}
+use Rattle.dt_mrd.proofs.LevelOrder.{Ascends, length_prefix, take_next}
 use Rattle.dt_mrd.proofs.LevelPuts.{change_query, turn_query}
 use Rattle.dt_mrd.proofs.LevelCell.{IsSameBelow}
 use Rattle.dt_mrd.proofs.LevelRow.{IsAt, still_at, at_still}
-use Rattle.dt_mrd.proofs.LevelOver.{Keeps, key_snoc, IsOver, over_still, IsLevelGiven, IsLevelOver, level_over, prefix_parts}
+use Rattle.dt_mrd.proofs.LevelOver.{key_snoc, IsOver, over_still, IsLevelGiven, IsLevelOver, level_over, prefix_parts}
 use Rattle.dt_mrd.proofs.LevelKeys.{of_prefix, keyed, keyed_one, keyed_none, last_class, at_next}
 use Rattle.dt_mrd.proofs.LevelSteps.{extends_none, extends_then, no_row_before}
 
@@ -60,12 +60,14 @@ all_of_arity arity (first ∷ changes) sorted few starts change has = elim has [
 -- those of one arity ascend
 ascends_sorted : (arity : ℕ) (changes : List Change) → AreSorted changes → ((change : Change) → Has changes change → length change.query.classes ≡ arity) → Ascends change_query arity changes
 ascends_sorted arity [] sorted long = tt
-ascends_sorted arity (first ∷ changes) sorted long = (λ change has. (
-    let one = long first (inl refl) in let other = long change (inr has) in
-    let below : is_below first.query.classes change.query.classes ≡ true = elim (sorted.0 change has) [ inl less ↦ absurd (omega (arith, less, one, other)) | inr same ↦ same.1 ] in
-    subst (λ (l : List ℕ). is_below l (take arity change.query.classes) ≡ true) (sym (take_all arity first.query.classes (omega (arith, one))))
-    (subst (λ (l : List ℕ). is_below first.query.classes l ≡ true) (sym (take_all arity change.query.classes (omega (arith, other)))) below)),
-    ascends_sorted arity changes sorted.1 (λ change has. long change (inr has)))
+ascends_sorted arity (first ∷ changes) sorted long = (
+  λ change has. (
+      let one = long first (inl refl) in let other = long change (inr has) in
+      let below : is_below first.query.classes change.query.classes ≡ true = elim (sorted.0 change has) [ inl less ↦ absurd (omega (arith, less, one, other)) | inr same ↦ same.1 ] in
+      subst (λ (l : List ℕ). is_below l (take arity change.query.classes) ≡ true) (sym (take_all arity first.query.classes (omega (arith, one))))
+      (subst (λ (l : List ℕ). is_below first.query.classes l ≡ true) (sym (take_all arity change.query.classes (omega (arith, other)))) below)),
+  ascends_sorted arity changes sorted.1 (λ change has. long change (inr has)),
+)
 
 -- ---- the order of turns
 
@@ -79,10 +81,13 @@ AreOrdered (first ∷ turns) = ((turn : Turn) → Has turns turn → comes_befor
 pub ordered_both : (turns more : List Turn) → AreOrdered turns → AreOrdered more
     → ((turn other : Turn) → Has turns turn → Has more other → comes_before (turn.query.selector, row_of turn) (other.query.selector, row_of other) ≡ true) → AreOrdered (turns ++ more)
 ordered_both [] more one other between = other
-ordered_both (first ∷ turns) more one other between = (λ turn has. elim (in_both turns more turn has) [
+ordered_both (first ∷ turns) more one other between = (
+  λ turn has. elim (in_both turns more turn has) [
     | inl a ↦ one.0 turn a
     | inr b ↦ between first turn (inl refl) b
-  ], ordered_both turns more one.1 other (λ turn later has has_later. between turn later (inr has) has_later))
+  ],
+  ordered_both turns more one.1 other (λ turn later has has_later. between turn later (inr has) has_later),
+)
 
 longer_first : (s t : ℕ) (p q : List ℕ) → s ≡ t → length q < length p → comes_before (s, p) (t, q) ≡ true
 longer_first s t p q same longer = or_right (nat_lt s t) ((s == t) && (nat_lt (length q) (length p) || ((length q == length p) && is_below p q)))
@@ -110,8 +115,7 @@ nil_of [] within = refl
 nil_of (x ∷ xs) within = absurd (omega (arith, within))
 
 module _ (held next : Held) (tabled : IsTabled held) (tabled_next : IsTabled next) (s : ℕ) (rows0 : KeptAt) (root : Option ℕ)
-  (old : (p : List ℕ) → IsAt rows0 (key_along rows0 root p) held s p) where
-
+    (old : (p : List ℕ) → IsAt rows0 (key_along rows0 root p) held s p) where
   -- what is known where the rows of a length, 'led', and those of greater lengths had their turns
   pub record IsGiven (most : ℕ) (rows : KeptAt) (changes : List Change) (led : List Turn) : Type 0 where
     pub kept : (k : ℕ) → is_some (rows0 k) ≡ true → rows k ≡ rows0 k
@@ -172,10 +176,10 @@ module _ (held next : Held) (tabled : IsTabled held) (tabled_next : IsTabled nex
     others = λ p short none none_led. (let is = nil_of p short in
         subst (λ (l : List ℕ). key_along rows (first_key root led) l ≡ key_along rows0 root l) (sym is) (none_first led (λ turn has. none_led turn has (sym is))));
     at = λ p short. subst (λ (l : List ℕ). IsAt rows (key_along rows (first_key root led) l) next s l) (sym (nil_of p short)) (elim (of_prefix 0 led []) [
-        | inl found ↦ subst (λ (k : Option ℕ). IsAt rows k next s []) (sym (only_one led found.0 given.led_up found.1)) (given.led_at found.0 found.1)
-        | inr none ↦ subst (λ (k : Option ℕ). IsAt rows k next s []) (sym (none_first led (λ turn has. none turn has refl)))
-            (at_next rows root held next s [] (given.below [] refl none) (at_still rows0 rows root held s [] given.kept (old [])))
-      ]);
+      | inl found ↦ subst (λ (k : Option ℕ). IsAt rows k next s []) (sym (only_one led found.0 given.led_up found.1)) (given.led_at found.0 found.1)
+      | inr none ↦ subst (λ (k : Option ℕ). IsAt rows k next s []) (sym (none_first led (λ turn has. none turn has refl)))
+          (at_next rows root held next s [] (given.below [] refl none) (at_still rows0 rows root held s [] given.kept (old [])))
+    ]);
     order = tt;
     covers = λ change has d short. (let few = given.few change has in absurd (omega (arith, few, short)));
     covers_led = λ other has d short. absurd (omega (arith, short));
@@ -190,15 +194,17 @@ module _ (held next : Held) (tabled : IsTabled held) (tabled_next : IsTabled nex
   ordered_of : (d : ℕ) (level : List Turn) → Ascends turn_query d level
       → ((turn : Turn) → Has level turn → (turn.query.selector ≡ s) × (turn.depth ≡ d) × (d < length turn.query.classes)) → AreOrdered level
   ordered_of d [] up shape = tt
-  ordered_of d (first ∷ level) up shape = (λ turn has. (
-      let one = shape first (inl refl) in let other = shape turn (inr has) in
-      let first_is : row_of first ≡ prefix_of d first.query = ap (λ n. take n first.query.classes) one.1 in
-      let turn_is : row_of turn ≡ prefix_of d turn.query = ap (λ n. take n turn.query.classes) other.1 in
-      subst (λ (l : List ℕ). comes_before (first.query.selector, l) (turn.query.selector, row_of turn) ≡ true) (sym first_is)
-      (subst (λ (l : List ℕ). comes_before (first.query.selector, prefix_of d first.query) (turn.query.selector, l) ≡ true) (sym turn_is)
-      (below_first first.query.selector turn.query.selector (prefix_of d first.query) (prefix_of d turn.query) (one.0 ∙ sym other.0)
-      (length_prefix d turn.query.classes other.2 ∙ sym (length_prefix d first.query.classes one.2)) (up.0 turn has)))),
-      ordered_of d level up.1 (λ turn has. shape turn (inr has)))
+  ordered_of d (first ∷ level) up shape = (
+    λ turn has. (
+        let one = shape first (inl refl) in let other = shape turn (inr has) in
+        let first_is : row_of first ≡ prefix_of d first.query = ap (λ n. take n first.query.classes) one.1 in
+        let turn_is : row_of turn ≡ prefix_of d turn.query = ap (λ n. take n turn.query.classes) other.1 in
+        subst (λ (l : List ℕ). comes_before (first.query.selector, l) (turn.query.selector, row_of turn) ≡ true) (sym first_is)
+        (subst (λ (l : List ℕ). comes_before (first.query.selector, prefix_of d first.query) (turn.query.selector, l) ≡ true) (sym turn_is)
+        (below_first first.query.selector turn.query.selector (prefix_of d first.query) (prefix_of d turn.query) (one.0 ∙ sym other.0)
+        (length_prefix d turn.query.classes other.2 ∙ sym (length_prefix d first.query.classes one.2)) (up.0 turn has)))),
+    ordered_of d level up.1 (λ turn has. shape turn (inr has)),
+  )
 
   one_of : (n d : ℕ) → n ≤ suc d → (n ≤ d) ⊎ (n ≡ suc d)
   one_of zero d within = inl (omega arith)
@@ -206,9 +212,8 @@ module _ (held next : Held) (tabled : IsTabled held) (tabled_next : IsTabled nex
   one_of (suc n) (suc d) within = elim (one_of n d (omega (arith, within))) [ inl a ↦ inl (omega (arith, a)) | inr b ↦ inr (omega (arith, b)) ]
 
   module _ (d : ℕ) (rows : KeptAt) (fresh : List ℕ) (changes : List Change) (led : List Turn) (given : IsGiven (suc d) rows changes led)
-    (count : ℕ) (before : IsBeforeArity changes (suc d) count) (level : List Turn) (between : KeptAt) (fresh_between : List ℕ)
-    (laid : IsLevel root d rows fresh (drop count changes) led level between fresh_between) where
-
+      (count : ℕ) (before : IsBeforeArity changes (suc d) count) (level : List Turn) (between : KeptAt) (fresh_between : List ℕ)
+      (laid : IsLevel root d rows fresh (drop count changes) led level between fresh_between) where
     abbrev target : List ℕ → Option ℕ
     target q = keyed (suc d) led q (key_along rows0 root q)
 
@@ -282,9 +287,9 @@ module _ (held next : Held) (tabled : IsTabled held) (tabled_next : IsTabled nex
       led_up = over.up;
       below = level_below;
       unchanged = λ classes short none. given.unchanged classes (omega (arith, short)) (λ change has same. elim (in_parts count changes change has) [
-          | inl shorter ↦ none change shorter same
-          | inr own ↦ (let whole = own_long change own in let long = ap length same in omega (arith, whole, long, short))
-        ]);
+        | inl shorter ↦ none change shorter same
+        | inr own ↦ (let whole = own_long change own in let long = ap length same in omega (arith, whole, long, short))
+      ]);
     }
 
     row_is : (turn : Turn) → Has level turn → row_of turn ≡ prefix_of d turn.query
@@ -294,7 +299,6 @@ module _ (held next : Held) (tabled : IsTabled held) (tabled_next : IsTabled nex
     row_long turn has = ap length (row_is turn has) ∙ length_prefix d turn.query.classes (each_of turn has).long
 
     module _ (more : List Turn) (rows_then : KeptAt) (fresh_then : List ℕ) (key : Option ℕ) (rest : AreOver d between fresh_between (take count changes) level more rows_then fresh_then key) where
-
       kept_then : (k : ℕ) → is_some (rows0 k) ≡ true → rows_then k ≡ rows0 k
       kept_then k some =
           let now = between_given.kept k some in
@@ -360,68 +364,68 @@ module _ (held next : Held) (tabled : IsTabled held) (tabled_next : IsTabled nex
       join = record {
         extends = extends_then rows between rows_then fresh fresh_between fresh_then over.extends rest.extends;
         each = λ turn has. elim (in_both level more turn has) [
-            | inl own ↦ (let is = each_of turn own in let depth = is.depth_is in record {
-                selector_is = is.selector_is;
-                short = omega (arith, depth);
-                long = subst (λ n. n < length turn.query.classes) (sym depth) is.long;
-                old_is = is.old_is ∙ ap (λ (l : List ℕ). key_along rows0 root l) (sym (row_is turn own));
-                new_is = ap (λ (l : List ℕ). key_along rows_then key l) (row_is turn own) ∙ rest.led_new turn own;
-              })
-            | inr later ↦ (let is = rest.each turn later in let short = is.short in record {
-                selector_is = is.selector_is;
-                short = omega (arith, short);
-                long = is.long;
-                old_is = is.old_is;
-                new_is = is.new_is;
-              })
-          ];
+          | inl own ↦ (let is = each_of turn own in let depth = is.depth_is in record {
+            selector_is = is.selector_is;
+            short = omega (arith, depth);
+            long = subst (λ n. n < length turn.query.classes) (sym depth) is.long;
+            old_is = is.old_is ∙ ap (λ (l : List ℕ). key_along rows0 root l) (sym (row_is turn own));
+            new_is = ap (λ (l : List ℕ). key_along rows_then key l) (row_is turn own) ∙ rest.led_new turn own;
+          })
+          | inr later ↦ (let is = rest.each turn later in let short = is.short in record {
+            selector_is = is.selector_is;
+            short = omega (arith, short);
+            long = is.long;
+            old_is = is.old_is;
+            new_is = is.new_is;
+          })
+        ];
         led_new = led_new_then;
         others = λ p short none none_led. elim (one_of (length p) d short) [
-            | inl less ↦ rest.others p less (λ turn has. none turn (of_second level more turn has)) (λ turn has same. none turn (of_first level more turn has) (row_is turn has ∙ same))
-            | inr long ↦ others_long p long none_led
-          ];
+          | inl less ↦ rest.others p less (λ turn has. none turn (of_second level more turn has)) (λ turn has same. none turn (of_first level more turn has) (row_is turn has ∙ same))
+          | inr long ↦ others_long p long none_led
+        ];
         at = λ p short. elim (one_of (length p) d short) [ inl less ↦ rest.at p less | inr long ↦ at_long p long ];
         order = ordered_both level more (ordered_of d level over.up (λ turn has. ((each_of turn has).selector_is, (each_of turn has).depth_is, (each_of turn has).long))) rest.order
             (λ turn other has has_later. longer_first turn.query.selector other.query.selector (row_of turn) (row_of other)
             ((each_of turn has).selector_is ∙ sym (rest.each other has_later).selector_is)
             (let short = more_long other has_later in let long = row_long turn has in omega (arith, short, long)));
         covers = λ change has n short. elim (in_parts count changes change has) [
-            | inl shorter ↦ (let found = rest.covers change shorter n short in (found.0, of_second level more found.0 found.1, found.2))
-            | inr own ↦ (let found = over.covers change own in let long = own_long change own in
-                covers_below found.0 found.1 change.query.classes found.2 n (omega (arith, short, long)))
-          ];
+          | inl shorter ↦ (let found = rest.covers change shorter n short in (found.0, of_second level more found.0 found.1, found.2))
+          | inr own ↦ (let found = over.covers change own in let long = own_long change own in
+              covers_below found.0 found.1 change.query.classes found.2 n (omega (arith, short, long)))
+        ];
         covers_led = λ other has n short. (let found = over.covers_led other has in covers_below found.0 found.1 other.query.classes found.2 n short);
         of_query = λ turn has. elim (in_both level more turn has) [
-            | inl own ↦ elim (over.of_query turn own) [
-                | inl found ↦ inl (found.0, of_drop count changes found.0 found.1, found.2)
-                | inr found ↦ inr found
-              ]
-            | inr later ↦ elim (rest.of_query turn later) [
-                | inl found ↦ inl (found.0, of_take count changes found.0 found.1, found.2)
-                | inr found ↦ elim (over.of_query found.0 found.1) [
-                    | inl source ↦ inl (source.0, of_drop count changes source.0 source.1, source.2 ∙ found.2)
-                    | inr source ↦ inr (source.0, source.1, source.2 ∙ found.2)
-                  ]
-              ]
-          ];
+          | inl own ↦ elim (over.of_query turn own) [
+            | inl found ↦ inl (found.0, of_drop count changes found.0 found.1, found.2)
+            | inr found ↦ inr found
+          ]
+          | inr later ↦ elim (rest.of_query turn later) [
+            | inl found ↦ inl (found.0, of_take count changes found.0 found.1, found.2)
+            | inr found ↦ elim (over.of_query found.0 found.1) [
+              | inl source ↦ inl (source.0, of_drop count changes source.0 source.1, source.2 ∙ found.2)
+              | inr source ↦ inr (source.0, source.1, source.2 ∙ found.2)
+            ]
+          ]
+        ];
         vacant = λ turn k has e. elim (in_both level more turn has) [
-            | inl own ↦ over.vacant turn k own e
-            | inr later ↦ no_row_before (rows k) (between k) (over.extends.kept k) (rest.vacant turn k later e)
-          ];
+          | inl own ↦ over.vacant turn k own e
+          | inr later ↦ no_row_before (rows k) (between k) (over.extends.kept k) (rest.vacant turn k later e)
+        ];
         apart = λ one other k has_one has_other e_one e_other. elim (in_both level more one has_one) [
-            | inl own ↦ elim (in_both level more other has_other) [
-                | inl also ↦ row_is one own ∙ over.apart one other k own also e_one e_other ∙ sym (row_is other also)
-                | inr later ↦ absurd (true≢false (sym ((each_of one own).at.there k e_one).1 ∙ ap is_some (rest.vacant other k later e_other)))
-              ]
-            | inr later ↦ elim (in_both level more other has_other) [
-                | inl also ↦ absurd (true≢false (sym ((each_of other also).at.there k e_other).1 ∙ ap is_some (rest.vacant one k later e_one)))
-                | inr also ↦ rest.apart one other k later also e_one e_other
-              ]
-          ];
+          | inl own ↦ elim (in_both level more other has_other) [
+            | inl also ↦ row_is one own ∙ over.apart one other k own also e_one e_other ∙ sym (row_is other also)
+            | inr later ↦ absurd (true≢false (sym ((each_of one own).at.there k e_one).1 ∙ ap is_some (rest.vacant other k later e_other)))
+          ]
+          | inr later ↦ elim (in_both level more other has_other) [
+            | inl also ↦ absurd (true≢false (sym ((each_of other also).at.there k e_other).1 ∙ ap is_some (rest.vacant one k later e_one)))
+            | inr also ↦ rest.apart one other k later also e_one e_other
+          ]
+        ];
         among = λ turn k has e. elim (in_both level more turn has) [
-            | inl own ↦ rest.extends.stays k (over.among turn k own e)
-            | inr later ↦ rest.among turn k later e
-          ];
+          | inl own ↦ rest.extends.stays k (over.among turn k own e)
+          | inr later ↦ rest.among turn k later e
+        ];
       }
 
   -- all lengths

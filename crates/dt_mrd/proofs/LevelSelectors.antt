@@ -1,9 +1,9 @@
 -- The selectors of a batch, one after another.
-use Rattle.std.proofs.Common.{◌≡◌, ◌≢◌, ◌==◌, ℕ, zero, suc, ◌+◌, ◌<◌, ◌≤◌, Bool, true, false, if◌then◌else◌, List, [], ◌∷◌, ◌++◌, length, take, drop, get_or, set, Option, Some, None, is_some, Contains, ◌⊎◌, inl, inr, refl, sym, ap, subst, ◌∙◌, arith}
+use Rattle.std.proofs.Common.{◌≡◌, ◌≢◌, ◌==◌, ℕ, zero, suc, ◌<◌, ◌≤◌, Bool, true, false, if◌then◌else◌, List, [], ◌∷◌, ◌++◌, length, take, drop, get_or, set, Option, Some, None, is_some, Contains, ◌⊎◌, inl, inr, refl, sym, ap, subst, ◌∙◌, arith}
 use Rattle.std.specs.Prelude.{nat_lt}
 use Rattle.std.proofs.lemmas.Bool.{eqb-true, eq-eqb, or_left, true≢false}
 use Rattle.std.proofs.lemmas.List.{length-append, get_or-set_same, get_or-set_other}
-use Rattle.dt_scratch.specs.Query.{Query, arity_of_query}
+use Rattle.dt_scratch.specs.Query.{Query}
 use Rattle.dt_scratch.specs.declared.reply.Change.{Change}
 use Rattle.dt_cells.specs.Held.{Held}
 use Rattle.dt_cells.specs.HeldLaws.{by_cases, if_true, if_false}
@@ -11,30 +11,32 @@ use Rattle.dt_placing.specs.Turn.{run_of}
 use Rattle.dt_placing.specs.PlacingLaws.{lt_test, lt_tested}
 use Rattle.dt_placing.specs.RowsLaws.{not_understood}
 use Rattle.dt_placing.specs.Rows.{is_understood}
-use Rattle.dt_mrd.specs.declared.kept_row.KeptRow.{KeptRow}
 use Rattle.dt_mrd.specs.declared.staged.StagedRoot.{StagedRoot}
 use Rattle.dt_mrd.specs.declared.turn.Turn.{Turn}
-use Rattle.dt_mrd.specs.Rows.{sent, IsRow, comes_before}
+use Rattle.dt_mrd.specs.Rows.{sent, IsRow}
 use Rattle.dt_mrd.specs.Placing.{IsTabled}
 use Rattle.dt_mrd.specs.Kept.{row_at, next_in, key_of_next, key_along, with_roots}
 use Rattle.dt_mrd.specs.ReadingLaws.{row_of as index_row, index_before, row_is_short}
 use Rattle.dt_mrd.specs.Levels.{KeptAt, Extends, prefix_of, AreLevels, IsFirstSelector, AreSelectors}
 use Rattle.dt_mrd.proofs.LevelLists.{Has, in_parts, in_both, of_first, of_second, of_take, of_drop}
 use Rattle.dt_mrd.proofs.LevelOrder.{length_prefix}
-use Rattle.dt_mrd.proofs.LevelCell.{answer_at, IsSameBelow}
+use Rattle.dt_mrd.proofs.LevelCell.{answer_at}
 use Rattle.dt_mrd.proofs.LevelRow.{IsAt, at_still}
 use Rattle.dt_mrd.proofs.LevelOver.{key_snoc, key_kept}
 use Rattle.dt_mrd.proofs.LevelKeys.{last_class}
-use Rattle.dt_mrd.proofs.LevelSelector.{IsEarlier, AreSorted, row_of, AreOrdered, ordered_both, IsGiven, IsTurned, AreOver, selector_over}
+use Rattle.dt_mrd.proofs.LevelSelector.{IsEarlier, AreSorted, row_of, AreOrdered, ordered_both, IsGiven, AreOver, selector_over}
 use Rattle.dt_mrd.proofs.LevelSteps.{extends_none, extends_then, no_row_before}
 
 -- ---- where there is no row
 
 pub at_none : (rows : KeptAt) (held : Held) (s : ℕ) (p : List ℕ) → (IsRow held (s, p) → ⊥) → IsAt rows None held s p
 at_none rows held s p none = record {
-  cells = λ class. (by_cases (is_understood (answer_at held s p class))
-      (λ t. absurd (none (index_row held (s, p) class ([], not_understood (answer_at held s p class) t))))
-      (λ f. f), λ on. none (index_row held (s, p) class (index_before held s p class on)));
+  cells = λ class. (
+    by_cases (is_understood (answer_at held s p class))
+        (λ t. absurd (none (index_row held (s, p) class ([], not_understood (answer_at held s p class) t))))
+        (λ f. f),
+    λ on. none (index_row held (s, p) class (index_before held s p class on)),
+  );
   there = λ k e. absurd (true≢false (sym (ap is_some e)));
   none = λ e is. none is;
 }
@@ -78,10 +80,13 @@ in_turn_drop (suc count) (first ∷ changes) up = in_turn_drop count changes up.
 
 sorted_own : (s : ℕ) (changes : List Change) → AreInTurn changes → ((change : Change) → Has changes change → change.query.selector ≡ s) → AreSorted changes
 sorted_own s [] up own = tt
-sorted_own s (first ∷ changes) up own = (λ change has. elim (up.0 change has) [
+sorted_own s (first ∷ changes) up own = (
+  λ change has. elim (up.0 change has) [
     | inl less ↦ absurd (let one = own first (inl refl) in let other = own change (inr has) in omega (arith, less, one, other))
     | inr same ↦ same.1
-  ], sorted_own s changes up.1 (λ change has. own change (inr has)))
+  ],
+  sorted_own s changes up.1 (λ change has. own change (inr has)),
+)
 
 in_turn_take : (count : ℕ) (changes : List Change) → AreInTurn changes → AreInTurn (take count changes)
 in_turn_take zero changes up = tt
@@ -109,6 +114,7 @@ run_after s (first ∷ changes) up least change has = go (run_after s changes up
   where
     greater : (n : ℕ) → n ≢ s → s ≤ n → s < n
     greater n differs at_least = omega (arith, differs, at_least)
+
     go : (Has (drop (run_of s changes) changes) change → s < change.query.selector) → (b : Bool) → (first.query.selector == s) ≡ b → Has (drop (if b then suc (run_of s changes) else 0) (first ∷ changes)) change → s < change.query.selector
     go rest true e has = rest has
     go rest false e has =
@@ -161,8 +167,7 @@ root_is (first ∷ staged) roots s within =
     ∙ ap (root_in staged s) (get_set roots first.selector s first.key within)
 
 module _ (held next : Held) (tabled : IsTabled held) (tabled_next : IsTabled next) (roots : List (Option ℕ)) (rows0 : KeptAt)
-  (old : (s : ℕ) → s < 4096 → (p : List ℕ) → IsAt rows0 (key_along rows0 (get_or roots s None) p) held s p) where
-
+    (old : (s : ℕ) → s < 4096 → (p : List ℕ) → IsAt rows0 (key_along rows0 (get_or roots s None) p) held s p) where
   -- what is known where the selectors below a bound had their turns
   pub record AreGiven (low : ℕ) (rows : KeptAt) (changes : List Change) : Type 0 where
     pub kept : (k : ℕ) → is_some (rows0 k) ≡ true → rows k ≡ rows0 k
@@ -200,10 +205,9 @@ module _ (held next : Held) (tabled : IsTabled held) (tabled_next : IsTabled nex
     pub staged_of : (root : StagedRoot) → Has staged root → (change : Change) × Has changes change × (change.query.selector ≡ root.selector)
 
   module _ (low : ℕ) (rows : KeptAt) (fresh : List ℕ) (changes : List Change) (given : AreGiven low rows changes) (root : StagedRoot) (own : List Turn) (between : KeptAt) (fresh_between : List ℕ)
-    (first : IsFirstSelector changes root.selector)
-    (levels : AreLevels (get_or roots root.selector None) 4 rows fresh (take (run_of root.selector changes) changes) [] own between fresh_between root.key)
-    (extends : Extends rows fresh between fresh_between) where
-
+      (first : IsFirstSelector changes root.selector)
+      (levels : AreLevels (get_or roots root.selector None) 4 rows fresh (take (run_of root.selector changes) changes) [] own between fresh_between root.key)
+      (extends : Extends rows fresh between fresh_between) where
     abbrev s : ℕ
     s = root.selector
 
@@ -241,9 +245,9 @@ module _ (held next : Held) (tabled : IsTabled held) (tabled_next : IsTabled nex
           let whole : length change.query.classes ≡ length (p ++ (class ∷ rest)) = ap (λ (q : Query). length q.classes) same in
           let more = length-append p (class ∷ rest) in omega (arith, few, whole, more, long)));
       unchanged = λ classes short none. given.unchanged s classes above_low (λ change has same. elim (in_parts count changes change has) [
-          | inl mine ↦ none change mine (ap (λ (q : Query). q.classes) same)
-          | inr later ↦ (let more = later_is change later in let e : change.query.selector ≡ s = ap (λ (q : Query). q.selector) same in omega (arith, more, e))
-        ]);
+        | inl mine ↦ none change mine (ap (λ (q : Query). q.classes) same)
+        | inr later ↦ (let more = later_is change later in let e : change.query.selector ≡ s = ap (λ (q : Query). q.selector) same in omega (arith, more, e))
+      ]);
     }
 
     over : AreOver held next tabled tabled_next s rows0 (get_or roots s None) (old s in_range) 4 rows fresh (take count changes) [] own between fresh_between root.key
@@ -258,9 +262,9 @@ module _ (held next : Held) (tabled : IsTabled held) (tabled_next : IsTabled nex
       few = λ change has. given.few change (of_drop count changes change has);
       answers = λ change has. given.answers change (of_drop count changes change has);
       unchanged = λ t classes above none. given.unchanged t classes (let a = above_low in omega (arith, above, a)) (λ change has same. elim (in_parts count changes change has) [
-          | inl mine ↦ (let e : change.query.selector ≡ t = ap (λ (q : Query). q.selector) same in let is = own_is change mine in omega (arith, above, e, is))
-          | inr later ↦ none change later same
-        ]);
+        | inl mine ↦ (let e : change.query.selector ≡ t = ap (λ (q : Query). q.selector) same in let is = own_is change mine in omega (arith, above, e, is))
+        | inr later ↦ none change later same
+      ]);
     }
 
     -- every row of the selector
@@ -274,7 +278,6 @@ module _ (held next : Held) (tabled : IsTabled held) (tabled_next : IsTabled nex
     own_stands turn k has e = ((at_between (row_of turn)).there k ((over.each turn has).new_is ∙ e)).1
 
     module _ (staged : List StagedRoot) (more : List Turn) (rows_then : KeptAt) (fresh_then : List ℕ) (rest : AreDone between fresh_between (drop count changes) staged more rows_then fresh_then) where
-
       key_then : (p : List ℕ) → key_along rows_then root.key p ≡ key_along between root.key p
       key_then p = key_kept next next tabled_next tabled_next s between root.key at_between rows_then rest.extends.kept p []
 
@@ -297,64 +300,64 @@ module _ (held next : Held) (tabled : IsTabled held) (tabled_next : IsTabled nex
       join_selector = record {
         extends = extends_then rows between rows_then fresh fresh_between fresh_then extends rest.extends;
         each = λ turn has. elim (in_both own more turn has) [
-            | inl mine ↦ (let is = over.each turn mine in record {
-                long = is.long;
-                old_is = is.old_is ∙ ap (λ n. key_along rows0 (get_or roots n None) (row_of turn)) (sym is.selector_is);
-                new_is = ap (λ n. key_along rows_then (root_then (root ∷ staged) n) (row_of turn)) is.selector_is ∙ own_key (row_of turn) ∙ is.new_is;
-              })
-            | inr later ↦ (let is = rest.each turn later in record {
-                long = is.long;
-                old_is = is.old_is;
-                new_is = ap (λ (k : Option ℕ). key_along rows_then k (row_of turn)) (root_later turn.query.selector (more_selector turn later)) ∙ is.new_is;
-              })
-          ];
+          | inl mine ↦ (let is = over.each turn mine in record {
+            long = is.long;
+            old_is = is.old_is ∙ ap (λ n. key_along rows0 (get_or roots n None) (row_of turn)) (sym is.selector_is);
+            new_is = ap (λ n. key_along rows_then (root_then (root ∷ staged) n) (row_of turn)) is.selector_is ∙ own_key (row_of turn) ∙ is.new_is;
+          })
+          | inr later ↦ (let is = rest.each turn later in record {
+            long = is.long;
+            old_is = is.old_is;
+            new_is = ap (λ (k : Option ℕ). key_along rows_then k (row_of turn)) (root_later turn.query.selector (more_selector turn later)) ∙ is.new_is;
+          })
+        ];
         of_query = λ turn has. elim (in_both own more turn has) [
-            | inl mine ↦ elim (over.of_query turn mine) [
-                | inl found ↦ (found.0, of_take count changes found.0 found.1, found.2)
-                | inr none ↦ absurd none.1
-              ]
-            | inr later ↦ (let found = rest.of_query turn later in (found.0, of_drop count changes found.0 found.1, found.2))
-          ];
+          | inl mine ↦ elim (over.of_query turn mine) [
+            | inl found ↦ (found.0, of_take count changes found.0 found.1, found.2)
+            | inr none ↦ absurd none.1
+          ]
+          | inr later ↦ (let found = rest.of_query turn later in (found.0, of_drop count changes found.0 found.1, found.2))
+        ];
         covers = λ change has d short. elim (in_parts count changes change has) [
-            | inl mine ↦ (let found = over.covers change mine d short in (found.0, of_first own more found.0 found.1, own_selector found.0 found.1 ∙ sym (own_is change mine), found.2))
-            | inr later ↦ (let found = rest.covers change later d short in (found.0, of_second own more found.0 found.1, found.2, found.3))
-          ];
+          | inl mine ↦ (let found = over.covers change mine d short in (found.0, of_first own more found.0 found.1, own_selector found.0 found.1 ∙ sym (own_is change mine), found.2))
+          | inr later ↦ (let found = rest.covers change later d short in (found.0, of_second own more found.0 found.1, found.2, found.3))
+        ];
         order = ordered_both own more over.order rest.order (λ turn other has has_later. or_left (nat_lt turn.query.selector other.query.selector) _
             (lt_test turn.query.selector other.query.selector (let mine = own_selector turn has in let later = more_selector other has_later in omega (arith, mine, later))));
         vacant = λ turn k has e. elim (in_both own more turn has) [
-            | inl mine ↦ over.vacant turn k mine e
-            | inr later ↦ no_row_before (rows k) (between k) (extends.kept k) (rest.vacant turn k later e)
-          ];
+          | inl mine ↦ over.vacant turn k mine e
+          | inr later ↦ no_row_before (rows k) (between k) (extends.kept k) (rest.vacant turn k later e)
+        ];
         apart = λ one other k has_one has_other e_one e_other. elim (in_both own more one has_one) [
-            | inl mine ↦ elim (in_both own more other has_other) [
-                | inl also ↦ (own_selector one mine ∙ sym (own_selector other also), over.apart one other k mine also e_one e_other)
-                | inr later ↦ absurd (true≢false (sym (own_stands one k mine e_one) ∙ ap is_some (rest.vacant other k later e_other)))
-              ]
-            | inr later ↦ elim (in_both own more other has_other) [
-                | inl also ↦ absurd (true≢false (sym (own_stands other k also e_other) ∙ ap is_some (rest.vacant one k later e_one)))
-                | inr also ↦ rest.apart one other k later also e_one e_other
-              ]
-          ];
+          | inl mine ↦ elim (in_both own more other has_other) [
+            | inl also ↦ (own_selector one mine ∙ sym (own_selector other also), over.apart one other k mine also e_one e_other)
+            | inr later ↦ absurd (true≢false (sym (own_stands one k mine e_one) ∙ ap is_some (rest.vacant other k later e_other)))
+          ]
+          | inr later ↦ elim (in_both own more other has_other) [
+            | inl also ↦ absurd (true≢false (sym (own_stands other k also e_other) ∙ ap is_some (rest.vacant one k later e_one)))
+            | inr also ↦ rest.apart one other k later also e_one e_other
+          ]
+        ];
         among = λ turn k has e. elim (in_both own more turn has) [
-            | inl mine ↦ rest.extends.stays k (over.among turn k mine e)
-            | inr later ↦ rest.among turn k later e
-          ];
+          | inl mine ↦ rest.extends.stays k (over.among turn k mine e)
+          | inr later ↦ rest.among turn k later e
+        ];
         at = λ t change has is p. elim (in_parts count changes change has) [
-            | inl mine ↦ subst (λ n. IsAt rows_then (key_along rows_then (root_then (root ∷ staged) n) p) next n p) (sym (own_is change mine) ∙ is)
-                (subst (λ (k : Option ℕ). IsAt rows_then k next s p) (sym (own_key p)) (at_still between rows_then (key_along between root.key p) next s p rest.extends.kept (at_between p)))
-            | inr later ↦ subst (λ (k : Option ℕ). IsAt rows_then (key_along rows_then k p) next t p) (sym (root_later t (subst (λ n. s < n) is (later_is change later)))) (rest.at t change later is p)
-          ];
+          | inl mine ↦ subst (λ n. IsAt rows_then (key_along rows_then (root_then (root ∷ staged) n) p) next n p) (sym (own_is change mine) ∙ is)
+              (subst (λ (k : Option ℕ). IsAt rows_then k next s p) (sym (own_key p)) (at_still between rows_then (key_along between root.key p) next s p rest.extends.kept (at_between p)))
+          | inr later ↦ subst (λ (k : Option ℕ). IsAt rows_then (key_along rows_then k p) next t p) (sym (root_later t (subst (λ n. s < n) is (later_is change later)))) (rest.at t change later is p)
+        ];
         others = λ t change has is p short none. elim (in_parts count changes change has) [
-            | inl mine ↦ (let same : s ≡ t = sym (own_is change mine) ∙ is in
-                subst (λ n. key_along rows_then (root_then (root ∷ staged) n) p ≡ key_along rows0 (get_or roots n None) p) same
-                (own_key p ∙ over.others p short (λ turn own_has. none turn (of_first own more turn own_has) (own_selector turn own_has ∙ same)) (λ turn never. absurd never)))
-            | inr later ↦ ap (λ (k : Option ℕ). key_along rows_then k p) (root_later t (subst (λ n. s < n) is (later_is change later)))
-                ∙ rest.others t change later is p short (λ turn more_has. none turn (of_second own more turn more_has))
-          ];
+          | inl mine ↦ (let same : s ≡ t = sym (own_is change mine) ∙ is in
+              subst (λ n. key_along rows_then (root_then (root ∷ staged) n) p ≡ key_along rows0 (get_or roots n None) p) same
+              (own_key p ∙ over.others p short (λ turn own_has. none turn (of_first own more turn own_has) (own_selector turn own_has ∙ same)) (λ turn never. absurd never)))
+          | inr later ↦ ap (λ (k : Option ℕ). key_along rows_then k p) (root_later t (subst (λ n. s < n) is (later_is change later)))
+              ∙ rest.others t change later is p short (λ turn more_has. none turn (of_second own more turn more_has))
+        ];
         staged_of = λ r has. elim has [
-            | inl is ↦ (let found = first_of_run s changes first in (found.0, found.1, found.2 ∙ ap (λ (x : StagedRoot). x.selector) is))
-            | inr later ↦ (let found = rest.staged_of r later in (found.0, of_drop count changes found.0 found.1, found.2))
-          ];
+          | inl is ↦ (let found = first_of_run s changes first in (found.0, found.1, found.2 ∙ ap (λ (x : StagedRoot). x.selector) is))
+          | inr later ↦ (let found = rest.staged_of r later in (found.0, of_drop count changes found.0 found.1, found.2))
+        ];
       }
 
   pub selectors_done : (low : ℕ) (rows : KeptAt) (fresh : List ℕ) (changes : List Change) (staged : List StagedRoot) (turns : List Turn) (rows_then : KeptAt) (fresh_then : List ℕ)

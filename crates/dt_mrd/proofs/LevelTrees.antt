@@ -1,7 +1,6 @@
 -- Rows that are kept under their keys, row by row and all together.
-use Rattle.std.proofs.Common.{◌≡◌, ℕ, ◌<◌, Bool, true, false, List, [], ◌∷◌, ◌++◌, get_or, Option, Some, None, is_some, ◌⊎◌, inl, inr, refl, sym, ap, subst, ◌∙◌}
+use Rattle.std.proofs.Common.{◌≡◌, ℕ, ◌<◌, true, List, [], ◌∷◌, ◌++◌, get_or, Option, Some, None, is_some, inl, inr, refl, sym, ap, subst, ◌∙◌}
 use Rattle.std.proofs.lemmas.Bool.{true≢false}
-use Rattle.dt_scratch.specs.declared.reply.Answer.{Answer}
 use Rattle.dt_cells.specs.Held.{Held, Row}
 use Rattle.dt_cells.specs.HeldLaws.{by_cases}
 use Rattle.dt_placing.specs.Rows.{is_understood}
@@ -31,13 +30,13 @@ code_part (Some (LeadsToAnswer code)) = code
 code_part _ = 0
 
 module _ (roots : List (Option ℕ)) (rows : KeptAt) (free : List ℕ) (tags : Row → ℕ) (held : Held) (tabled : IsTabled held) (are : AreKept roots rows free tags held) where
-
   cell_of : (s : ℕ) (p : List ℕ) (is : IsRow held (s, p)) (class : ℕ) (cell : Option Next) → next_in (Some (are.row (s, p) is).1) class ≡ cell → IsCell held s p class cell
   cell_of s p is class None e = (
-      by_cases (is_understood (answer_at held s p class))
-      (λ t. absurd (some_none (next_in (Some (are.row (s, p) is).1) class) (LeadsToAnswer (code_of_answer (answer_at held s p class))) ((are.row (s, p) is).4.answers class t) e))
-      (λ f. f),
-      λ on. true≢false (sym ((are.row (s, p) is).4.indexes class (index_before held s p class on)) ∙ ap is_some e))
+    by_cases (is_understood (answer_at held s p class))
+        (λ t. absurd (some_none (next_in (Some (are.row (s, p) is).1) class) (LeadsToAnswer (code_of_answer (answer_at held s p class))) ((are.row (s, p) is).4.answers class t) e))
+        (λ f. f),
+    λ on. true≢false (sym ((are.row (s, p) is).4.indexes class (index_before held s p class on)) ∙ ap is_some e),
+  )
   cell_of s p is class (Some (LeadsToAnswer code)) e = by_cases (is_understood (answer_at held s p class))
       (λ t. (t, ap code_part (sym e ∙ (are.row (s, p) is).4.answers class t)))
       (λ f. (let k = are.row (s, p) is in

@@ -1,21 +1,20 @@
 -- What the selectors of a batch come to when they are laid: the turns of the rows that its changes touch.
-use Rattle.std.proofs.Common.{◌≡◌, ◌≢◌, ◌==◌, ℕ, suc, ◌<◌, ◌≤◌, Bool, true, false, List, [], ◌∷◌, ◌++◌, length, take, get_or, Option, Some, None, is_some, All, Contains, ◌⊎◌, inl, inr, refl, sym, ap, subst, ◌∙◌, arith}
+use Rattle.std.proofs.Common.{◌≡◌, ◌≢◌, ◌==◌, ℕ, ◌<◌, true, false, List, [], ◌∷◌, ◌++◌, length, take, get_or, Option, Some, None, Contains, ◌⊎◌, inl, inr, refl, sym, ap, subst, ◌∙◌, arith}
 use Rattle.std.specs.List.Sorted.{IsStrictlySortedBy}
 use Rattle.std.proofs.lemmas.Bool.{eqb-true, eq-eqb, true≢false}
 use Rattle.dt_pages.specs.Reading.{Reading}
-use Rattle.dt_scratch.specs.Query.{Query, arity_of_query, query_order}
+use Rattle.dt_scratch.specs.Query.{Query, query_order}
 use Rattle.dt_scratch.specs.declared.reply.Change.{Change}
 use Rattle.dt_cells.specs.Held.{Held, Row, held_after, IsStageableChange}
 use Rattle.dt_cells.specs.HeldLaws.{by_cases}
-use Rattle.dt_mrd.specs.declared.kept_row.KeptRow.{KeptRow}
 use Rattle.dt_mrd.specs.declared.staged.StagedRoot.{StagedRoot}
 use Rattle.dt_mrd.specs.declared.turn.Turn.{Turn}
-use Rattle.dt_mrd.specs.Rows.{sent, root, IsRow, comes_before}
+use Rattle.dt_mrd.specs.Rows.{sent, IsRow, comes_before}
 use Rattle.dt_mrd.specs.Reading.{tag_read}
 use Rattle.dt_mrd.specs.Placing.{IsTabled}
 use Rattle.dt_mrd.specs.Kept.{row_at, tag_in, key_along, key_of, with_roots, HasRoot, AreKept}
 use Rattle.dt_mrd.specs.ReadingLaws.{row_is_short}
-use Rattle.dt_mrd.specs.Levels.{KeptAt, Extends, AreSelectors}
+use Rattle.dt_mrd.specs.Levels.{KeptAt, AreSelectors}
 use Rattle.dt_mrd.specs.Turns.{row_of_turn, has_turn, AreInOrder, IsOfChange, tags_in, AreTurns, IsBatch}
 use Rattle.dt_mrd.proofs.TurnLists.{at_turn}
 use Rattle.dt_mrd.proofs.LevelLists.{Has, has_of, contains_of, all_has, has_all}
@@ -26,7 +25,7 @@ use Rattle.dt_mrd.proofs.LevelKeys.{at_next}
 use Rattle.dt_mrd.proofs.LevelSelector.{AreOrdered, row_of}
 use Rattle.dt_mrd.proofs.LevelSelectors.{AreGiven, AreDone, selectors_done, root_then, root_other, root_is}
 use Rattle.dt_mrd.proofs.LevelChanges.{in_turn_of, answer_after, answer_same}
-use Rattle.dt_mrd.proofs.LevelTrees.{kept_at, kept_still, Stands, stands_at, is_kept}
+use Rattle.dt_mrd.proofs.LevelTrees.{kept_at, kept_still, stands_at, is_kept}
 
 -- some change is of the selector, or none is
 of_selector : (changes : List Change) (s : ℕ) → ((change : Change) × Has changes change × (change.query.selector ≡ s)) ⊎ ((change : Change) → Has changes change → change.query.selector ≢ s)
@@ -36,9 +35,9 @@ of_selector (first ∷ changes) s = by_cases (first.query.selector == s)
     (λ f. elim (of_selector changes s) [
       | inl found ↦ inl (found.0, inr found.1, found.2)
       | inr none ↦ inr (λ change has. elim has [
-          | inl is ↦ subst (λ (c : Change). c.query.selector ≢ s) is (λ same. true≢false (sym (eq-eqb first.query.selector s same) ∙ f))
-          | inr later ↦ none change later
-        ])
+        | inl is ↦ subst (λ (c : Change). c.query.selector ≢ s) is (λ same. true≢false (sym (eq-eqb first.query.selector s same) ∙ f))
+        | inr later ↦ none change later
+      ])
     ])
 
 in_order : (turns : List Turn) → AreOrdered turns → AreInOrder turns
@@ -52,9 +51,8 @@ turn_of_row turns turn row has e =
     at_turn turns turn row (record { index = at.0; within = at.1; is = ap row_of_turn at.2 ∙ e })
 
 module _ (x : Reading) (held : Held) (changes : List Change) (roots : List (Option ℕ)) (rows : KeptAt) (staged : List StagedRoot) (turns : List Turn)
-  (rows_then : KeptAt) (fresh_then : List ℕ) (batch : IsBatch x held changes) (ascending : IsStrictlySortedBy (λ a b. query_order a.query b.query) changes) (count : length roots ≡ 4096)
-  (are : AreKept roots rows [] (tag_read x) held) (laid : AreSelectors roots rows [] changes staged turns rows_then fresh_then) where
-
+    (rows_then : KeptAt) (fresh_then : List ℕ) (batch : IsBatch x held changes) (ascending : IsStrictlySortedBy (λ a b. query_order a.query b.query) changes) (count : length roots ≡ 4096)
+    (are : AreKept roots rows [] (tag_read x) held) (laid : AreSelectors roots rows [] changes staged turns rows_then fresh_then) where
   abbrev next : Held
   next = held_after held changes
 
@@ -125,10 +123,14 @@ module _ (x : Reading) (held : Held) (changes : List Change) (roots : List (Opti
   new_kept : AreKept roots_then rows_then [] (tags_in roots_then rows_then) next
   new_kept = record {
     roots_are = λ s below. root_of_at s (get_or roots_then s None) (at_then s below []);
-    row = λ row is. (let stands = stands_at rows_then (key_of roots_then rows_then row) next row.0 row.1 (at_then row.0 (row_range next batch.tabled row.0 row.1 is) row.1) is in
-        (stands.at_key, stands.row, stands.key_is, stands.row_is,
-        is_kept (tags_in roots_then rows_then) next row.0 row.1 stands.row
-        (sym (ap (λ (k : Option ℕ). tag_in (row_at rows_then k)) stands.key_is ∙ ap tag_in stands.row_is)) stands.cells));
+    row = λ row is. (let stands = stands_at rows_then (key_of roots_then rows_then row) next row.0 row.1 (at_then row.0 (row_range next batch.tabled row.0 row.1 is) row.1) is in (
+      stands.at_key,
+      stands.row,
+      stands.key_is,
+      stands.row_is,
+      is_kept (tags_in roots_then rows_then) next row.0 row.1 stands.row
+          (sym (ap (λ (k : Option ℕ). tag_in (row_at rows_then k)) stands.key_is ∙ ap tag_in stands.row_is)) stands.cells,
+    ));
     not_free = λ row key is e free. (let below = free.1 in omega (arith, below));
   }
 

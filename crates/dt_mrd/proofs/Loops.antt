@@ -1,6 +1,5 @@
 -- One step of a loop over the indexes of a row.
-use Rattle.std.proofs.Common.{◌≡◌, ◌==◌, ℕ, suc, ◌+◌, ◌<◌, ◌≤◌, Bool, true, false, ◌||◌, ◌&&◌, if◌then◌else◌, List, [], ◌∷◌, ◌++◌, length, take, get_or, ◌⊎◌, inl, inr, refl, sym, ap, subst, ◌∙◌, arith, All}
-use Rattle.std.specs.List.{list_any}
+use Rattle.std.proofs.Common.{◌≡◌, ◌==◌, ℕ, suc, ◌+◌, ◌<◌, ◌≤◌, Bool, true, false, ◌||◌, ◌&&◌, if◌then◌else◌, List, [], ◌∷◌, ◌++◌, length, take, get_or, inl, inr, refl, sym, ap, subst, ◌∙◌, arith}
 use Rattle.std.proofs.lemmas.Bool.{and_parts, and_from, or_left, or_right, eqb-true, eq-eqb, true≢false}
 use Rattle.std.proofs.Math.Seq.{take-suc}
 use Rattle.std.proofs.lemmas.List.{take_all}
@@ -35,10 +34,6 @@ among_step indexes i class below =
     let more : i + 1 ≡ suc i = omega arith in
     ap (λ (l : List ℕ). is_among l class) (ap (λ n. take n indexes) more ∙ take-suc indexes i 0 below)
     ∙ among_append (take i indexes) (get_or indexes i 0) class
-
--- nothing is laid for no index
-pub laid_none : {T : Type 0} (at : ℕ → ℕ) (passes : ℕ → Bool) (value before : ℕ → T) → ((class : ℕ) → passes class ≡ false) → Laid at passes value 2048 before before
-laid_none at passes value before none place = inr ((λ class below p. absurd (true≢false (sym p ∙ none class))), refl)
 
 -- one index after others
 pub laid_step : {T : Type 0} (at : ℕ → ℕ) (test done next : ℕ → Bool) (value : ℕ → T) (k : ℕ) (before now later : ℕ → T) → k < 2048

@@ -1,17 +1,15 @@
 -- One turn of a row: what is used without its own cells is what other rows use, so that its tag is that of the rule.
-use Rattle.std.proofs.Common.{◌≡◌, ◌≢◌, ◌==◌, ℕ, suc, ◌+◌, ◌-◌, ◌*◌, ◌/◌, ◌<◌, ◌≤◌, Bool, true, false, ◌&&◌, ◌||◌, not, if◌then◌else◌, List, [], ◌∷◌, ◌++◌, length, ◌⊎◌, inl, inr, refl, sym, ap, subst, ◌∙◌, arith}
-use Rattle.std.specs.Prelude.{nat_lt}
-use Rattle.std.proofs.lemmas.Bool.{and_parts, and_from, or_left, or_right, not_from_false, not-true, eqb-true, eq-eqb, true≢false}
+use Rattle.std.proofs.Common.{◌≡◌, ◌≢◌, ◌==◌, ℕ, suc, ◌+◌, ◌-◌, ◌*◌, ◌<◌, Bool, true, false, ◌&&◌, not, inl, inr, sym, ap, subst, ◌∙◌, arith}
+use Rattle.std.proofs.lemmas.Bool.{and_parts, and_from, not_from_false, eqb-true, eq-eqb, true≢false}
 use Rattle.dt_pages.specs.Reading.{Reading}
-use Rattle.dt_cells.specs.Held.{Held, Row}
-use Rattle.dt_cells.specs.HeldLaws.{by_cases, or_true, if_true, if_false}
+use Rattle.dt_cells.specs.Held.{Row}
+use Rattle.dt_cells.specs.HeldLaws.{by_cases, if_true, if_false}
 use Rattle.dt_placing.specs.Turn.{Laid}
-use Rattle.dt_mrd.specs.Rows.{HasIndex, IsRow, next_row, comes_before}
+use Rattle.dt_mrd.specs.Rows.{HasIndex, IsRow, comes_before}
 use Rattle.dt_mrd.specs.Reading.{owns, cell_at}
 use Rattle.dt_mrd.specs.ReadingLaws.{owned_cell, room_some, row_of, index_in_range}
-use Rattle.dt_mrd.specs.Placing.{IsTabled, HasRoom, Rows, HasTag, HasCell, IsUsed, Fits, FitsAlone, IsLowestTag, MayStay, IsPlaced, code_of}
-use Rattle.dt_mrd.specs.Kept.{AreUsed}
-use Rattle.dt_mrd.specs.Midway.{HasNow, IsNow, tag_now, code_now, Midway, Touches, IsTurn, IsRowOf, FitsIn, IsLowestIn, IsChosen, Turned}
+use Rattle.dt_mrd.specs.Placing.{IsTabled, Rows, HasTag, HasCell, IsUsed, Fits, IsPlaced}
+use Rattle.dt_mrd.specs.Midway.{HasNow, IsNow, tag_now, code_now, Midway, Touches, IsTurn, IsRowOf, FitsIn, IsChosen}
 use Rattle.dt_mrd.proofs.Order.{before_strict, before_total}
 
 pub not_itself : (row turn : Row) → comes_before row turn ≡ true → row ≢ turn

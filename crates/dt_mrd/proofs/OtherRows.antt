@@ -1,13 +1,13 @@
 -- The cells and displacements of other rows than the one whose turn it is are those of fewer rows than there may be.
-use Rattle.std.proofs.Common.{◌≡◌, ◌≢◌, ◌==◌, ℕ, zero, suc, ◌+◌, ◌-◌, ◌*◌, ◌<◌, ◌≤◌, Bool, true, false, ◌&&◌, ◌||◌, not, if◌then◌else◌, List, [], ◌∷◌, ◌++◌, take, length, All, Contains, ◌⊎◌, inl, inr, refl, sym, ap, subst, ◌∙◌, arith}
+use Rattle.std.proofs.Common.{◌≡◌, ◌≢◌, ◌==◌, ℕ, zero, suc, ◌+◌, ◌-◌, ◌*◌, ◌<◌, ◌≤◌, Bool, true, false, ◌&&◌, if◌then◌else◌, List, [], ◌∷◌, ◌++◌, take, length, All, Contains, inl, inr, refl, sym, ap, subst, ◌∙◌, arith}
 use Rattle.std.specs.List.{list_any}
-use Rattle.std.proofs.lemmas.Bool.{or_left, or_right, eq-eqb, true≢false}
+use Rattle.std.proofs.lemmas.Bool.{or_left, or_right, eq-eqb}
 use Rattle.std.proofs.lemmas.List.Elements.{All-nil, All-cons, All-weaker, All-same}
 use Rattle.std.proofs.Math.Seq.{take-append_seam}
 use Rattle.std.proofs.lemmas.List.{length-append}
 use Rattle.slab.proofs.SlabLemmas.{Contains-cons_cases}
 use Rattle.dt_pages.specs.Reading.{Reading}
-use Rattle.dt_cells.specs.Held.{Held, Row, HasFewRows}
+use Rattle.dt_cells.specs.Held.{Row, HasFewRows}
 use Rattle.dt_cells.specs.HeldLaws.{by_cases, if_true, if_false}
 use Rattle.dt_fit.specs.declared.geometry.Geometry.TheVariants.{Displacements}
 use Rattle.dt_fit.specs.Rows.{PlacedRow, AreIndexes, row_uses}

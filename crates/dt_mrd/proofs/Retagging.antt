@@ -1,5 +1,5 @@
 -- A row gets another tag: its cells stay, and so do all keys.
-use Rattle.std.proofs.Common.{◌≡◌, ◌≢◌, ◌==◌, ℕ, Bool, true, false, if◌then◌else◌, List, [], ◌∷◌, get_or, Option, None, Some, Contains, ◌⊎◌, inl, inr, refl, sym, ap, ◌∙◌}
+use Rattle.std.proofs.Common.{◌≡◌, ◌≢◌, ◌==◌, ℕ, List, [], ◌∷◌, get_or, Option, None, Some, Contains, ◌⊎◌, inl, inr, refl, sym, ap, ◌∙◌}
 use Rattle.std.proofs.lemmas.Bool.{eqb-true, eq-eqb, true≢false}
 use Rattle.std.proofs.lemmas.List.Elements.{All-weaker}
 use Rattle.dt_pages.specs.Reading.{Reading}
@@ -8,7 +8,6 @@ use Rattle.dt_cells.specs.Held.{Held, Row, held_after}
 use Rattle.dt_cells.specs.HeldLaws.{by_cases, if_true, if_false}
 use Rattle.dt_mrd.specs.declared.kept_row.KeptRow.{KeptRow}
 use Rattle.dt_mrd.specs.declared.turn.Turn.{Turn}
-use Rattle.dt_mrd.specs.Rows.{IsRow}
 use Rattle.dt_mrd.specs.Reading.{tag_read}
 use Rattle.dt_mrd.specs.Kept.{row_at, tag_in, next_in, key_of_next, key_along, key_of, AreKept}
 use Rattle.dt_mrd.specs.Turns.{with_other_tag, with_tag, row_of_turn, tags_in, AreTurns}
@@ -53,9 +52,13 @@ module _ (roots : List (Option ℕ)) (rows : ℕ → Option KeptRow) (key tag : 
   pub kept_beside : (free : List ℕ) (tags : Row → ℕ) (held : Held) → Contains free key → AreKept roots rows free tags held → AreKept roots (with_tag rows key tag) free tags held
   kept_beside free tags held there are = record {
     roots_are = are.roots_are;
-    row = λ row is. (let k = are.row row is in
-        (k.0, k.1, key_same roots rows key tag row ∙ k.2,
-        other_row rows key tag k.0 (λ e. are.not_free row key is (k.2 ∙ ap Some e) there) ∙ k.3, k.4));
+    row = λ row is. (let k = are.row row is in (
+      k.0,
+      k.1,
+      key_same roots rows key tag row ∙ k.2,
+      other_row rows key tag k.0 (λ e. are.not_free row key is (k.2 ∙ ap Some e) there) ∙ k.3,
+      k.4,
+    ));
     not_free = λ row other is e. are.not_free row other is (sym (key_same roots rows key tag row) ∙ e);
   }
 
@@ -67,18 +70,30 @@ module _ (roots : List (Option ℕ)) (rows : ℕ → Option KeptRow) (key tag : 
     row = λ row is. (let k = are.row row is in
         let at : key_of roots (with_tag rows key tag) row ≡ Some k.0 = key_same roots rows key tag row ∙ k.2 in
         elim (found k.0 k.1 k.3) [
-          | inl own ↦ (k.0, record k.1 { tag = tag }, at, own, record {
+          | inl own ↦ (
+            k.0,
+            record k.1 { tag = tag },
+            at,
+            own,
+            record {
               tag = sym (ap (λ o. tag_in (row_at (with_tag rows key tag) o)) at ∙ ap tag_in own);
               indexes = k.4.indexes;
               used = k.4.used;
               answers = k.4.answers;
-            })
-          | inr other ↦ (k.0, k.1, at, other, record {
+            },
+          )
+          | inr other ↦ (
+            k.0,
+            k.1,
+            at,
+            other,
+            record {
               tag = sym (ap (λ o. tag_in (row_at (with_tag rows key tag) o)) at ∙ ap tag_in other);
               indexes = k.4.indexes;
               used = k.4.used;
               answers = k.4.answers;
-            })
+            },
+          )
         ]);
     not_free = λ row other is e free. are.not_free row other is (sym (key_same roots rows key tag row) ∙ e) free;
   }

@@ -1,5 +1,5 @@
 -- A value stands still after each step of a stage, and stands for what is held after where the stage is settled.
-use Rattle.std.proofs.Common.{◌≡◌, ◌==◌, ℕ, ◌+◌, ◌<◌, ◌≤◌, Bool, true, if◌then◌else◌, List, [], ◌∷◌, get_or, set, length, Option, None, Vec, Global, Contains, refl, sym, ap, subst, ◌∙◌, All}
+use Rattle.std.proofs.Common.{◌≡◌, ℕ, ◌≤◌, true, if◌then◌else◌, List, [], ◌∷◌, set, length, Option, None, Vec, Global, Contains, refl, sym, ap, subst, ◌∙◌}
 use Rattle.std.proofs.lemmas.Bool.{or_left}
 use Rattle.std.proofs.lemmas.List.{length-set}
 use Rattle.std.proofs.lemmas.List.Elements.{All-weaker}
@@ -21,7 +21,7 @@ use Rattle.dt_mrd.specs.Reading.{owns, tag_read}
 use Rattle.dt_mrd.specs.Placing.{Places, mrd}
 use Rattle.dt_mrd.specs.MrdLaws.{shown_after, tag_shown, tags_one, words_one}
 use Rattle.dt_mrd.specs.MrdStanding.{used_elsewhere, rows_elsewhere, taken_elsewhere}
-use Rattle.dt_mrd.specs.Kept.{AreKept, AreUsed, AreTaken, with_roots, Stands, Follows}
+use Rattle.dt_mrd.specs.Kept.{AreKept, AreTaken, with_roots, Stands, Follows}
 use Rattle.dt_mrd.specs.Laying.{is_among}
 use Rattle.dt_mrd.specs.Levels.{Extends}
 use Rattle.dt_mrd.specs.Staging.{IsSettled, CanLay}

@@ -1,8 +1,8 @@
 -- A row that is none after has no turn: nothing changes where its turn is over.
-use Rattle.std.proofs.Common.{◌≡◌, ◌≢◌, ℕ, ◌+◌, ◌*◌, ◌<◌, Bool, true, false, inl, inr, sym, ap, subst, ◌∙◌, if◌then◌else◌}
+use Rattle.std.proofs.Common.{◌≡◌, ◌≢◌, ℕ, ◌+◌, ◌*◌, ◌<◌, Bool, inl, inr, sym, ap, subst, ◌∙◌, if◌then◌else◌}
 use Rattle.dt_pages.specs.Reading.{Reading}
 use Rattle.dt_cells.specs.Held.{Row}
-use Rattle.dt_mrd.specs.Rows.{HasIndex, IsRow}
+use Rattle.dt_mrd.specs.Rows.{IsRow}
 use Rattle.dt_mrd.specs.Reading.{cell_at}
 use Rattle.dt_mrd.specs.ReadingLaws.{row_of}
 use Rattle.dt_mrd.specs.Placing.{HasRoom, Rows, code_of}

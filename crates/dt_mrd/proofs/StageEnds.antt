@@ -1,27 +1,23 @@
 -- What a stage leaves follows on what was held, and stands where it is settled.
-use Rattle.std.proofs.Common.{◌≡◌, ◌≢◌, ◌==◌, ℕ, suc, ◌+◌, ◌<◌, ◌≤◌, Bool, true, false, if◌then◌else◌, List, [], ◌∷◌, get_or, set, length, Option, None, Some, is_some, All, Contains, ◌⊎◌, inl, inr, refl, sym, ap, subst, ◌∙◌, arith}
+use Rattle.std.proofs.Common.{◌≡◌, ◌==◌, ℕ, ◌<◌, ◌≤◌, Bool, true, List, [], ◌∷◌, get_or, Option, None, Some, is_some, All, Contains, inl, inr, sym, ap, subst, ◌∙◌, arith}
 use Rattle.std.proofs.lemmas.Bool.{or_left, or_right, eqb-true, eq-eqb, true≢false}
-use Rattle.std.proofs.lemmas.List.{length-set}
 use Rattle.std.proofs.lemmas.List.Elements.{All-get_or, All-head, All-tail, All-weaker}
-use Rattle.slab.specs.Slab.{get}
 use Rattle.slab.proofs.SlabLemmas.{Contains-cons_cases}
 use Rattle.dt_pages.specs.Reading.{Reading}
 use Rattle.dt_scratch.specs.Query.{Query, arity_of_query}
 use Rattle.dt_scratch.specs.declared.reply.Change.{Change}
 use Rattle.dt_cells.specs.Regions.{place_of}
-use Rattle.dt_cells.specs.Held.{Held, IsHeld, IsInRange, Row, held_after, is_changed, IsStageableChange, IsStageable}
+use Rattle.dt_cells.specs.Held.{Held, IsInRange, Row, held_after, is_changed, IsStageableChange, IsStageable}
 use Rattle.dt_cells.specs.HeldLaws.{by_cases, or_true, after_keeps, body_after}
-use Rattle.dt_cells.specs.Kind.{Stay}
 use Rattle.dt_mrd.specs.declared.kept_row.KeptRow.{KeptRow}
-use Rattle.dt_mrd.specs.declared.staged.StagedRoot.{StagedRoot}
 use Rattle.dt_mrd.specs.declared.turn.Turn.{Turn}
-use Rattle.dt_mrd.specs.Rows.{root, IsRow}
+use Rattle.dt_mrd.specs.Rows.{IsRow}
 use Rattle.dt_mrd.specs.Reading.{owns, cell_at, tag_read}
-use Rattle.dt_mrd.specs.Placing.{IsTabled, Shows, Rows, rows_of, HasPlaceWord, Places, mrd}
+use Rattle.dt_mrd.specs.Placing.{IsTabled, Shows, Rows, rows_of, HasPlaceWord, Places}
 use Rattle.dt_mrd.specs.MrdStanding.{used_elsewhere}
-use Rattle.dt_mrd.specs.Kept.{row_at, tag_in, key_of, AreKept, AreUsed, AreTaken, with_roots}
+use Rattle.dt_mrd.specs.Kept.{row_at, tag_in, key_of, AreKept, AreUsed, AreTaken}
 use Rattle.dt_mrd.specs.Midway.{IsNow, tag_now, Midway}
-use Rattle.dt_mrd.specs.Turns.{row_of_turn, has_turn, IsOfChange, tags_in, AreTurns, IsBatch, ArePlaced}
+use Rattle.dt_mrd.specs.Turns.{row_of_turn, has_turn, IsOfChange, tags_in, IsBatch, ArePlaced}
 use Rattle.dt_mrd.proofs.KeptTrees.{key_row, tag_of_row}
 use Rattle.dt_mrd.proofs.Midway.{now_owned, is_next, tag_done, tag_waits}
 use Rattle.dt_mrd.proofs.Ending.{all_placed, all_placed_tags}

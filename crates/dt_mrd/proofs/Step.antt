@@ -1,22 +1,21 @@
 -- One turn of a row: the words, the used cells and the taken displacements are those of the rows after it.
-use Rattle.std.proofs.Common.{◌≡◌, ◌≢◌, ◌==◌, ℕ, suc, ◌+◌, ◌-◌, ◌*◌, ◌/◌, ◌<◌, ◌≤◌, Bool, true, false, ◌&&◌, ◌||◌, not, if◌then◌else◌, List, [], ◌∷◌, ◌++◌, length, ◌⊎◌, inl, inr, refl, sym, ap, subst, ◌∙◌, arith}
+use Rattle.std.proofs.Common.{◌≡◌, ◌≢◌, ◌==◌, ℕ, suc, ◌+◌, ◌-◌, ◌*◌, ◌<◌, Bool, true, false, ◌&&◌, not, List, [], ◌∷◌, ◌++◌, length, ◌⊎◌, inl, inr, refl, sym, ap, subst, ◌∙◌, arith}
 use Rattle.std.specs.Prelude.{nat_lt}
 use Rattle.std.proofs.lemmas.Bool.{and_parts, and_from, or_left, or_right, not_from_false, eqb-true, eq-eqb, true≢false}
 use Rattle.std.proofs.lemmas.List.{length-append}
 use Rattle.dt_pages.specs.Reading.{Reading}
 use Rattle.dt_scratch.specs.declared.reply.Answer.{Answer}
-use Rattle.dt_cells.specs.Held.{Held, Row}
+use Rattle.dt_cells.specs.Held.{Row}
 use Rattle.dt_cells.specs.HeldLaws.{by_cases, or_true, if_true, if_false}
 use Rattle.dt_placing.specs.Rows.{is_understood}
 use Rattle.dt_placing.specs.PlacingLaws.{lt_test}
-use Rattle.dt_placing.specs.Turn.{Laid}
-use Rattle.dt_mrd.specs.Rows.{sent, HasIndex, IsRow, next_row, comes_before}
+use Rattle.dt_mrd.specs.Rows.{sent, IsRow, next_row, comes_before}
 use Rattle.dt_mrd.specs.Reading.{owns, cell_at}
-use Rattle.dt_mrd.specs.ReadingLaws.{owned_cell, room_some, row_of, index_in_range, next_is_row, small_answer}
+use Rattle.dt_mrd.specs.ReadingLaws.{owned_cell, row_of, index_in_range, next_is_row, small_answer}
 use Rattle.dt_mrd.specs.Placing.{IsTabled, HasRoom, Rows, code_of, code_of_answer, IsPlaced}
 use Rattle.dt_mrd.specs.Midway.{HasNow, IsNow, tag_now, code_now, Midway, Touches, IsTurn, IsRowOf, FitsIn, IsChosen, Turned}
 use Rattle.dt_mrd.proofs.Order.{before_strict}
-use Rattle.dt_mrd.proofs.Midway.{now_row, now_next, is_next, tag_done, tag_waits, now_one, now_some, now_owned, own_now, own_parts, own_tag, freed_other, freed_has, own_is_now, given_has, given_of, placed_if_chosen}
+use Rattle.dt_mrd.proofs.Midway.{now_next, is_next, tag_done, tag_waits, now_one, now_some, now_owned, own_now, own_parts, own_tag, freed_other, freed_has, given_has, given_of, placed_if_chosen}
 
 same_bools : (a b : Bool) → (a ≡ true → b ≡ true) → (b ≡ true → a ≡ true) → a ≡ b
 same_bools true b f g = sym (f refl)

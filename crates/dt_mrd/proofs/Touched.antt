@@ -1,28 +1,28 @@
 -- Which rows the turns of a batch touch: every other row is as before, and each is kept under a key of its own.
-use Rattle.std.proofs.Common.{◌≡◌, ◌≢◌, ℕ, zero, suc, ◌+◌, ◌-◌, ◌<◌, ◌≤◌, Bool, true, false, if◌then◌else◌, List, [], ◌∷◌, ◌++◌, take, get_or, length, Option, None, Some, is_some, All, Contains, ◌⊎◌, inl, inr, refl, sym, ap, subst, ◌∙◌, arith}
+use Rattle.std.proofs.Common.{◌≡◌, ◌≢◌, ℕ, zero, suc, ◌+◌, ◌-◌, ◌<◌, true, false, List, [], ◌∷◌, ◌++◌, take, get_or, length, Option, None, Some, is_some, Contains, refl, sym, ap, subst, ◌∙◌, arith}
 use Rattle.std.proofs.lemmas.Bool.{true≢false}
 use Rattle.std.proofs.lemmas.List.{length-append, take-take, length-take-le}
 use Rattle.std.proofs.lemmas.List.Elements.{All-get_or, All-contains, Contains-get_or}
 use Rattle.std.proofs.Math.Seq.{take-append_seam}
 use Rattle.dt_pages.specs.Reading.{Reading}
-use Rattle.dt_scratch.specs.Query.{Query, arity_of_query, is_same_query}
+use Rattle.dt_scratch.specs.Query.{Query, is_same_query}
 use Rattle.dt_scratch.specs.declared.reply.Answer.{Answer}
 use Rattle.dt_scratch.specs.declared.reply.Change.{Change}
-use Rattle.dt_cells.specs.Held.{Held, IsHeld, Row, held_after, is_changed, IsStageableChange}
+use Rattle.dt_cells.specs.Held.{Held, Row, held_after, IsStageableChange}
 use Rattle.dt_cells.specs.HeldLaws.{by_cases, if_true, if_false, same_query}
 use Rattle.dt_placing.specs.Rows.{is_understood}
 use Rattle.dt_mrd.specs.declared.kept_row.KeptRow.{KeptRow}
 use Rattle.dt_mrd.specs.declared.turn.Turn.{Turn}
 use Rattle.dt_mrd.specs.Rows.{sent, next_row, HasIndex, IsRow}
 use Rattle.dt_mrd.specs.Reading.{tag_read}
-use Rattle.dt_mrd.specs.ReadingLaws.{row_of, next_is_row}
-use Rattle.dt_mrd.specs.Placing.{IsTabled, Shows, Rows, rows_of, code_of, code_of_answer}
-use Rattle.dt_mrd.specs.Kept.{row_at, tag_in, next_in, code_in, key_of, AreKept}
+use Rattle.dt_mrd.specs.ReadingLaws.{next_is_row}
+use Rattle.dt_mrd.specs.Placing.{Rows, rows_of, code_of, code_of_answer}
+use Rattle.dt_mrd.specs.Kept.{row_at, tag_in, next_in, code_in, key_of}
 use Rattle.dt_mrd.specs.Laying.{has_cell, HasClasses}
 use Rattle.dt_mrd.specs.Midway.{Touches, WasRowOf, IsRowOf}
 use Rattle.dt_mrd.specs.Turns.{row_of_turn, has_turn, IsOfChange, tags_in, with_tag, AreTurns, IsBatch}
 use Rattle.dt_mrd.proofs.KeptTrees.{key_row, row_has_key, has_cell_of, cell_index, classes_of_row, tag_of_row, tag_row, tag_small, code_of_cell}
-use Rattle.dt_mrd.proofs.TurnLists.{turn_at, turn_of}
+use Rattle.dt_mrd.proofs.TurnLists.{turn_at}
 use Rattle.dt_mrd.proofs.Retagging.{key_same, other_row, own_row}
 
 -- a turn of no row

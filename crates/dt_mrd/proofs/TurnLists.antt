@@ -1,15 +1,14 @@
 -- The rows of turns that are in the order of placing, and those of the first so many.
-use Rattle.std.proofs.Common.{◌≡◌, ◌≢◌, ◌==◌, ℕ, zero, suc, ◌+◌, ◌<◌, ◌≤◌, Bool, true, false, ◌&&◌, ◌||◌, List, [], ◌∷◌, take, get_or, length, Contains, All, ◌⊎◌, inl, inr, refl, sym, ap, subst, ◌∙◌, arith}
+use Rattle.std.proofs.Common.{◌≡◌, ◌≢◌, ◌==◌, ℕ, zero, suc, ◌+◌, ◌<◌, Bool, true, false, ◌||◌, List, [], ◌∷◌, take, get_or, length, ◌⊎◌, inl, inr, refl, sym, ap, subst, ◌∙◌, arith}
 use Rattle.std.specs.Prelude.{nat_eq, nat_lt}
-use Rattle.std.specs.List.{list_any}
 use Rattle.std.specs.Cmp.Lexicographic.{same_text}
 use Rattle.std.proofs.lemmas.Bool.{and_parts, and_from, or_left, or_right, eqb-true, eq-eqb, true≢false}
 use Rattle.std.proofs.lemmas.List.Folds.{list_any_more}
-use Rattle.std.proofs.lemmas.List.Elements.{All-get_or, All-head, All-tail, Contains-get_or}
+use Rattle.std.proofs.lemmas.List.Elements.{All-get_or}
 use lib.Pointwise.{pointwise}
 use Rattle.dt_cells.specs.Held.{Row}
 use Rattle.dt_cells.specs.HeldLaws.{by_cases, or_true}
-use Rattle.dt_placing.specs.PlacingLaws.{lt_test, lt_tested}
+use Rattle.dt_placing.specs.PlacingLaws.{lt_tested}
 use Rattle.dt_mrd.specs.declared.turn.Turn.{Turn}
 use Rattle.dt_mrd.specs.Rows.{comes_before}
 use Rattle.dt_mrd.specs.Midway.{IsTurn}

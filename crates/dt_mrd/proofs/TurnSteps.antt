@@ -1,5 +1,5 @@
 -- The steps of a batch's turns: of one row more is taken away what isn't used any more, and one row more has its turn.
-use Rattle.std.proofs.Common.{◌≡◌, ◌≢◌, ℕ, suc, ◌+◌, ◌-◌, ◌<◌, ◌≤◌, Bool, true, false, ◌&&◌, List, [], ◌∷◌, take, get_or, length, Option, None, Some, is_some, ◌⊎◌, inl, inr, refl, sym, ap, subst, ◌∙◌, arith}
+use Rattle.std.proofs.Common.{◌≡◌, ◌≢◌, ℕ, ◌+◌, ◌-◌, ◌<◌, ◌≤◌, Bool, true, false, ◌&&◌, List, [], take, get_or, length, Option, None, Some, is_some, inl, inr, refl, sym, ap, subst, ◌∙◌}
 use Rattle.std.proofs.lemmas.Bool.{true≢false}
 use Rattle.std.proofs.lemmas.List.{take_all}
 use Rattle.dt_pages.specs.Reading.{Reading}
@@ -10,12 +10,12 @@ use Rattle.dt_mrd.specs.declared.kept_row.KeptRow.{KeptRow}
 use Rattle.dt_mrd.specs.declared.turn.Turn.{Turn}
 use Rattle.dt_mrd.specs.Rows.{next_row, IsRow, comes_before}
 use Rattle.dt_mrd.specs.Reading.{owns, tag_read}
-use Rattle.dt_mrd.specs.Placing.{Rows, rows_of, IsPlaced}
+use Rattle.dt_mrd.specs.Placing.{rows_of, IsPlaced}
 use Rattle.dt_mrd.specs.MrdLaws.{placed_moves}
 use Rattle.dt_mrd.specs.Kept.{row_at, tag_in, next_in, code_in, key_of}
 use Rattle.dt_mrd.specs.Laying.{has_cell}
-use Rattle.dt_mrd.specs.Midway.{Cleared, Midway, TakenAway, Turned, IsTurn, HasOtherRows, given_up}
-use Rattle.dt_mrd.specs.Turns.{row_of_turn, has_turn, tags_in, with_tag, AreTurns, IsBatch, CanPlace, ArePlaced, HasNoTurn, HasTurn, IsOver}
+use Rattle.dt_mrd.specs.Midway.{Cleared, Midway, TakenAway, IsTurn, HasOtherRows, given_up}
+use Rattle.dt_mrd.specs.Turns.{row_of_turn, has_turn, tags_in, with_tag, CanPlace, ArePlaced, HasTurn, IsOver}
 use Rattle.dt_mrd.proofs.Order.{before_strict}
 use Rattle.dt_mrd.proofs.Midway.{not_itself}
 use Rattle.dt_mrd.proofs.Clearing.{nothing_gone, taken_away, all_gone}
@@ -24,7 +24,7 @@ use Rattle.dt_mrd.proofs.Step.{after_turn, turn_is_placed, child_first}
 use Rattle.dt_mrd.proofs.Displacements.{laid_outside}
 use Rattle.dt_mrd.proofs.TurnLists.{same_row, same_or_not, turn_later, is_turn, turn_over, others_over}
 use Rattle.dt_mrd.proofs.Retagging.{turns_after}
-use Rattle.dt_mrd.proofs.Touched.{no_turn, code_beside, touches, own_tag_after, same_tags_after, small_before, classes_before, classes_after, was_row, is_row, no_row, row_now, key_after, fresh_after, code_after}
+use Rattle.dt_mrd.proofs.Touched.{no_turn, code_beside, touches, own_tag_after, same_tags_after, was_row, is_row, no_row, row_now, key_after, fresh_after, code_after}
 use Rattle.dt_mrd.proofs.OtherRows.{other_rows}
 
 -- ---- before the first turn
@@ -114,9 +114,6 @@ module _ (x : Reading) (held : Held) (changes : List Change) (roots roots_then :
   -- another
   module _ (rows_then : ℕ → Option KeptRow) (used_then taken_then : ℕ → Bool) (then_words : Reading)
       (h : HasTurn (get_or turns i no_turn) rows rows_then used taken d used_then taken_then then_words) where
-    abbrev retagged : ℕ → Option KeptRow
-    retagged = with_tag rows h.key h.tag
-
     abbrev later : Row → ℕ
     later = tags_in roots_then (with_tag rows h.key h.tag)
 

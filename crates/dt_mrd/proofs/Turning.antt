@@ -1,5 +1,5 @@
 -- The tag that was chosen and the words that were laid, as one turn.
-use Rattle.std.proofs.Common.{◌≡◌, ℕ, Bool, ◌&&◌, sym, subst, refl}
+use Rattle.std.proofs.Common.{◌≡◌, ℕ, Bool, ◌&&◌, subst, refl}
 use Rattle.dt_pages.specs.Reading.{Reading}
 use Rattle.dt_mrd.specs.Midway.{TagChosen, WordsLaid, Turned, given_up}
 

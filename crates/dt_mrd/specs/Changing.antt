@@ -1,6 +1,5 @@
 -- What the changes of a row's queries, and the turns of the rows to which it leads, make of its cells.
 use Rattle.std.specs.Prelude.{ℕ, ◌==◌, Bool, true, false, if◌then◌else◌, List, [], ◌∷◌, get_or, Option, None, Some}
-use Rattle.dt_scratch.specs.declared.reply.Answer.{Answer}
 use Rattle.dt_scratch.specs.declared.reply.Change.{Change}
 use Rattle.dt_placing.specs.Rows.{is_understood}
 use Rattle.dt_mrd.specs.declared.kept_row.Next.{Next}

@@ -1,17 +1,16 @@
 -- A selector of two arguments, worked out word by word.
-use Rattle.std.specs.Prelude.{◌≡◌, ◌≢◌, ℕ, ◌==◌, Bool, true, false, if◌then◌else◌, List, [], ◌∷◌, refl}
+use Rattle.std.specs.Prelude.{◌≡◌, ℕ, ◌==◌, true, false, if◌then◌else◌, List, [], ◌∷◌, refl}
 use Rattle.dt_pages.specs.Reading.{Reading}
-use Rattle.dt_scratch.specs.declared.reply.Answer.{Answer}
 use Rattle.dt_scratch.specs.declared.reply.Answer.TheVariants.{Method, NotUnderstood, Ambiguous}
 use Rattle.dt_scratch.specs.declared.reply.Reply.TheVariants.{Answered, NoSelector, WrongArity, NoClass}
-use Rattle.dt_cells.specs.Held.{Held, Row}
+use Rattle.dt_cells.specs.Held.{Row}
 use Rattle.dt_cells.specs.Find.{found}
 use Rattle.dt_fit.specs.declared.geometry.Geometry.TheVariants.{Displacements}
 use Rattle.dt_fit.specs.Fits.{fits, fits_untaken}
 use Rattle.dt_fit.specs.Rows.{PlacedRow, rows_use}
 use Rattle.dt_mrd.specs.Rows.{sent, root, comes_before}
 use Rattle.dt_mrd.specs.Reading.{cell_at, tag_read, way_along}
-use Rattle.dt_mrd.specs.Placing.{code_of, mrd}
+use Rattle.dt_mrd.specs.Placing.{mrd}
 
 -- a reading by the words that are set
 abbrev words : List (ℕ × ℕ) → Reading

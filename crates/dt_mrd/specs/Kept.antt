@@ -1,15 +1,14 @@
 -- What a value keeps: the rows of what is held under keys, each with the keys of the rows to which it leads, and which cells
 -- and displacements are used.
-use Rattle.std.specs.Prelude.{◌≡◌, ◌⊎◌, ℕ, zero, suc, ◌+◌, ◌<◌, ◌≤◌, ◌&&◌, ◌==◌, not, Bool, true, false, nat_lt, if◌then◌else◌, List, [], ◌∷◌, get_or, set, length, Option, None, Some, is_some, Contains, IsTrue}
+use Rattle.std.specs.Prelude.{◌≡◌, ◌⊎◌, ℕ, suc, ◌+◌, ◌<◌, ◌≤◌, ◌&&◌, ◌==◌, not, Bool, true, nat_lt, List, [], ◌∷◌, get_or, set, length, Option, None, Some, is_some, Contains}
 use Rattle.std.specs.BTreeMap as tree
 use Rattle.std.specs.Ordering.{nat_cmp}
 use Rattle.slab.specs.Slab.{get}
 use Rattle.dt_pages.specs.Reading.{Reading}
 use Rattle.dt_scratch.specs.Query.{Query, arity_of_query}
-use Rattle.dt_scratch.specs.declared.reply.Answer.{Answer}
 use Rattle.dt_scratch.specs.declared.reply.Change.{Change}
 use Rattle.dt_cells.specs.Held.{Held, IsHeld, Row, held_after, IsStageable}
-use Rattle.dt_fit.specs.Cells.{Cells, is_kept, is_tried}
+use Rattle.dt_fit.specs.Cells.{is_kept, is_tried}
 use Rattle.dt_fit.specs.declared.geometry.Geometry.TheVariants.{Displacements}
 use Rattle.dt_placing.specs.Rows.{is_understood}
 use Rattle.dt_mrd.specs.declared.kept_row.KeptRow.{KeptRow}

@@ -1,6 +1,6 @@
 -- What laying rows anew does, in terms of what is kept alone: of one row, of the rows of one length, and of the lengths from
 -- the greatest on. What it means for the rows of what is held is shown of this.
-use Rattle.std.specs.Prelude.{◌≡◌, ◌≢◌, ◌⊎◌, ℕ, zero, suc, Bool, true, if◌then◌else◌, List, [], ◌∷◌, ◌++◌, take, drop, get_or, Option, None, Some, is_some, All, Contains}
+use Rattle.std.specs.Prelude.{◌≡◌, ◌≢◌, ◌⊎◌, ℕ, zero, suc, true, if◌then◌else◌, List, [], ◌∷◌, ◌++◌, take, drop, get_or, Option, None, Some, is_some, All, Contains}
 use Rattle.std.specs.BTreeMap as tree
 use Rattle.std.specs.Ordering.{nat_cmp}
 use Rattle.dt_scratch.specs.Query.{Query, arity_of_query}

@@ -7,7 +7,7 @@ use Rattle.dt_fit.specs.Rows.{PlacedRow, AreRows, ArePlacesOf, AreCellsOf}
 use Rattle.dt_placing.specs.Turn.{Laid}
 use Rattle.dt_mrd.specs.Rows.{HasIndex, IsRow, comes_before}
 use Rattle.dt_mrd.specs.Reading.{owns, cell_at}
-use Rattle.dt_mrd.specs.Placing.{HasRoom, IsTabled, Rows, code_of}
+use Rattle.dt_mrd.specs.Placing.{HasRoom, Rows, code_of}
 use Rattle.dt_mrd.specs.Kept.{AreUsed}
 
 -- a row has a cell for the class now: one that had its turn its new indexes, one that waits those of its old ones that are used still

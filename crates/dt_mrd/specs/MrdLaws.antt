@@ -1,6 +1,6 @@
 -- Multiple row displacement is a lawful kind.
-use Rattle.std.proofs.Common.{◌≡◌, ◌≢◌, ◌==◌, ℕ, zero, suc, ◌+◌, ◌-◌, ◌*◌, ◌/◌, ◌%◌, ◌<◌, ◌≤◌, Bool, true, false, ◌&&◌, ◌||◌, if◌then◌else◌, List, [], ◌∷◌, ◌++◌, length, ◌⊎◌, inl, inr, refl, sym, ap, subst, ◌∙◌, arith, take, All}
-use Rattle.std.specs.Prelude.{nat_le, nat_lt}
+use Rattle.std.proofs.Common.{◌≡◌, ◌≢◌, ◌==◌, ℕ, suc, ◌+◌, ◌-◌, ◌*◌, ◌/◌, ◌<◌, ◌≤◌, true, false, List, [], ◌∷◌, ◌++◌, length, ◌⊎◌, inl, inr, refl, sym, ap, subst, ◌∙◌, arith}
+use Rattle.std.specs.Prelude.{nat_lt}
 use Rattle.std.proofs.lemmas.Bool.{or_left, or_right, eqb-true, eq-eqb, true≢false}
 use Rattle.std.proofs.lemmas.List.{append_assoc, append-nil, length-append}
 use Rattle.dt_pages.specs.Reading.{Reading}
@@ -10,15 +10,15 @@ use Rattle.dt_scratch.specs.declared.reply.Answer.TheVariants.{NotUnderstood}
 use Rattle.dt_scratch.specs.declared.reply.Change.{Change}
 use Rattle.dt_cells.specs.Regions.{place_of}
 use Rattle.dt_cells.specs.Cell.{answer_of_code}
-use Rattle.dt_cells.specs.Held.{Held, none_held, IsHeld, IsInRange, HasArityOf, Row, held_after, is_changed, is_changed_place}
+use Rattle.dt_cells.specs.Held.{Held, IsHeld, HasArityOf, Row, held_after, is_changed, is_changed_place}
 use Rattle.dt_cells.specs.HeldLaws.{by_cases, or_true, if_true, if_false, unchanged_after, changed_place}
 use Rattle.dt_cells.specs.Kind.{IsLawful, SameFor, Stay, IsMarked, sets}
 use Rattle.dt_placing.specs.Rows.{is_understood}
 use Rattle.dt_placing.specs.RowsLaws.{understood, not_understood}
 use Rattle.dt_placing.specs.PlacingLaws.{unheld, lt_tested}
-use Rattle.dt_mrd.specs.Rows.{sent, root, next_row, HasIndex, IsRow, comes_before}
+use Rattle.dt_mrd.specs.Rows.{sent, root, HasIndex, IsRow, comes_before}
 use Rattle.dt_mrd.specs.Reading.{owns, cell_at, code_at, code_along, part_by, way_along, tag_read}
-use Rattle.dt_mrd.specs.Placing.{IsTabled, HasRoom, code_of_answer, code_of, AreCells, AreApart, Shows, Rows, HasTag, HasCell, IsUsed, Fits, FitsAlone, IsLowestTag, MayStay, IsPlaced, HasPlaceWord, rows_of, Places, mrd}
+use Rattle.dt_mrd.specs.Placing.{IsTabled, HasRoom, code_of_answer, code_of, AreCells, Shows, Rows, HasTag, HasCell, Fits, FitsAlone, IsLowestTag, MayStay, IsPlaced, HasPlaceWord, rows_of, Places, mrd}
 use Rattle.dt_mrd.specs.ReadingLaws.{along_none, along_same, tag_next, owned_cell, code_read, IsRead, code_is_read, room_some, answer_read, small_answer, row_of, root_of, index_before, next_is_row, row_not_held, index_in_range, row_is_short, way_of, way_same, by_order}
 
 -- ---- codes

@@ -1,10 +1,10 @@
 -- What it is for a value to stand for a reading.
-use Rattle.std.proofs.Common.{◌≡◌, ◌≢◌, ◌==◌, ℕ, ◌+◌, ◌<◌, ◌≤◌, Bool, true, false, not, List, ◌∷◌, Option, None, Some, is_some, ◌⊎◌, inl, inr, refl, sym, ap, subst, ◌∙◌, arith, get_or}
+use Rattle.std.proofs.Common.{◌≡◌, ◌==◌, ℕ, ◌+◌, ◌<◌, Bool, true, false, not, List, ◌∷◌, Option, None, is_some, inl, inr, sym, ap, ◌∙◌, get_or}
 use Rattle.std.specs.Prelude.{nat_lt, ◌&&◌}
 use Rattle.std.proofs.lemmas.Bool.{true≢false, and_parts, and_from}
 use Rattle.slab.specs.Slab.{get}
 use Rattle.dt_pages.specs.Reading.{Reading}
-use Rattle.dt_cells.specs.Held.{Held, IsHeld, Row}
+use Rattle.dt_cells.specs.Held.{Held, Row}
 use Rattle.dt_cells.specs.HeldLaws.{by_cases}
 use Rattle.dt_cells.specs.Kind.{SameFor}
 use Rattle.dt_cells.specs.Standing.{IsStanding}

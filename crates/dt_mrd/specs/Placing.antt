@@ -1,6 +1,6 @@
 -- Placing: each row of a selector gets a displacement of its own, the lowest at which its cells are free when its turn
 -- comes; rows that still fit stay where they are.
-use Rattle.std.specs.Prelude.{◌≡◌, ◌≢◌, ◌⊎◌, ℕ, ◌+◌, ◌-◌, ◌*◌, ◌^◌, ◌<◌, ◌≤◌, Bool, true, false, if◌then◌else◌, List}
+use Rattle.std.specs.Prelude.{◌≡◌, ◌≢◌, ◌⊎◌, ℕ, ◌+◌, ◌-◌, ◌*◌, ◌^◌, ◌<◌, ◌≤◌, true, false, if◌then◌else◌, List}
 use Rattle.dt_pages.specs.Reading.{Reading}
 use Rattle.dt_scratch.specs.Query.{Query, arity_of_query}
 use Rattle.dt_scratch.specs.declared.reply.Answer.{Answer}

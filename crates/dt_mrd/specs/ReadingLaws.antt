@@ -1,11 +1,10 @@
 -- Laws of reading, and of rows.
-use Rattle.std.proofs.Common.{◌≡◌, ◌≢◌, ◌==◌, ℕ, zero, suc, ◌+◌, ◌-◌, ◌*◌, ◌/◌, ◌%◌, ◌<◌, ◌≤◌, Bool, true, false, ◌&&◌, ◌||◌, if◌then◌else◌, List, [], ◌∷◌, ◌++◌, length, ◌⊎◌, inl, inr, refl, sym, ap, subst, ◌∙◌, arith, take, All}
+use Rattle.std.proofs.Common.{◌≡◌, ◌≢◌, ◌==◌, ℕ, zero, suc, ◌+◌, ◌-◌, ◌*◌, ◌/◌, ◌%◌, ◌<◌, ◌≤◌, true, false, ◌&&◌, ◌||◌, if◌then◌else◌, List, [], ◌∷◌, ◌++◌, length, inl, inr, refl, sym, ap, subst, ◌∙◌, arith, take}
 use Rattle.std.specs.Prelude.{nat_le, nat_lt}
 use Rattle.std.proofs.lemmas.Bool.{and_parts, and_from, eqb-true, eq-eqb, true≢false}
 use Rattle.std.proofs.lemmas.List.{append_assoc, length-append}
-use Rattle.std.proofs.lemmas.List.Elements.{All-head, All-tail}
-use Rattle.dt_pages.specs.Reading.{Reading, addresses}
-use Rattle.dt_scratch.specs.Query.{Query, arity_of_query}
+use Rattle.std.proofs.lemmas.List.Elements.{All-head}
+use Rattle.dt_pages.specs.Reading.{Reading}
 use Rattle.dt_scratch.specs.declared.reply.Answer.{Answer}
 use Rattle.dt_scratch.specs.declared.reply.Answer.TheVariants.{Method, NotUnderstood, Ambiguous}
 use Rattle.dt_cells.specs.Cell.{answer_of_code}
@@ -13,10 +12,10 @@ use Rattle.dt_cells.specs.Held.{Held, IsHeld, HasBodyInRange, Row}
 use Rattle.dt_cells.specs.HeldLaws.{by_cases, or_true, if_true, if_false}
 use Rattle.dt_placing.specs.Rows.{is_understood}
 use Rattle.dt_placing.specs.RowsLaws.{understood, not_understood, All-parts}
-use Rattle.dt_placing.specs.PlacingLaws.{le_test, lt_test, lt_tested, unheld}
-use Rattle.dt_mrd.specs.Rows.{sent, root, next_row, HasIndex, IsRow, is_below, comes_before}
-use Rattle.dt_mrd.specs.Reading.{owns, cell_at, code_at, code_along, part_by, way_along, tag_read}
-use Rattle.dt_mrd.specs.Placing.{IsTabled, HasRoom, code_of_answer, code_of}
+use Rattle.dt_placing.specs.PlacingLaws.{le_test, lt_test, lt_tested}
+use Rattle.dt_mrd.specs.Rows.{sent, next_row, HasIndex, IsRow, is_below, comes_before}
+use Rattle.dt_mrd.specs.Reading.{owns, cell_at, code_at, code_along, way_along, tag_read}
+use Rattle.dt_mrd.specs.Placing.{IsTabled, HasRoom, code_of_answer}
 
 apart : (m n : ℕ) → m ≢ n → (m == n) ≡ false
 apart m n h = by_cases (m == n) (λ t. absurd (h (eqb-true m n t))) (λ f. f)

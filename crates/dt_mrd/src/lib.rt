@@ -13,6 +13,7 @@ mod looking;
 mod mrd;
 mod row_turn;
 mod staged;
+mod staging;
 mod taking;
 mod turn;
 

@@ -1,4 +1,4 @@
-use Rattle.std.proofs.Common.{◌≡◌, ◌+◌, List, Option, None, ℕ, drop, get_or, refl, ap, ◌∙◌}
+use Rattle.std.proofs.Common.{◌+◌, List, Option, None, ℕ, drop, get_or, refl, ap, ◌∙◌}
 use Rattle.dt_mrd.specs.declared.staged.StagedRoot.{StagedRoot}
 use Rattle.dt_mrd.specs.Kept.{with_roots}
 use Rattle.dt_mrd.proofs.Roots.{put_step}

@@ -1,4 +1,4 @@
-use Rattle.std.proofs.Common.{ℕ, ◌+◌, take, get_or, option_copied, arith}
+use Rattle.std.proofs.Common.{◌+◌, take, get_or, option_copied, arith}
 use Rattle.dt_pages.specs.Image.{look_up}
 use Rattle.dt_pages.specs.Draft.{laid_over}
 use Rattle.dt_mrd.specs.Reading.{cell_at}

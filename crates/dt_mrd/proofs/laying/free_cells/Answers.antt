@@ -1,4 +1,4 @@
-use Rattle.std.proofs.Common.{ℕ, ◌+◌, take, get_or, option_copied, false, arith}
+use Rattle.std.proofs.Common.{◌+◌, take, get_or, option_copied, false, arith}
 use Rattle.dt_fit.specs.Cells.{is_tried}
 use Rattle.dt_mrd.specs.Laying.{is_among, is_met, number_at}
 use Rattle.dt_mrd.proofs.Loops.{among_step, class_of_index, cells_step, laid_all}

@@ -1,4 +1,4 @@
-use Rattle.std.proofs.Common.{◌≡◌, ◌++◌, ◌-◌, ℕ, suc, List, Option, ap, sym, ◌∙◌, append_assoc, arith}
+use Rattle.std.proofs.Common.{◌≡◌, ◌++◌, ◌-◌, ℕ, suc, List, Option, ap, ◌∙◌, append_assoc, arith}
 use Rattle.slab.specs.Slab.{get}
 use Rattle.dt_mrd.specs.declared.turn.Turn.{Turn}
 use Rattle.dt_mrd.specs.Levels.{AreLevels}

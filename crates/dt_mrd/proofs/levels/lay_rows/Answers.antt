@@ -1,8 +1,8 @@
-use Rattle.std.proofs.Common.{◌≡◌, ◌++◌, [], ◌∷◌, List, Some, refl, ap, sym, subst, ◌∙◌, append_assoc}
+use Rattle.std.proofs.Common.{◌++◌, [], ◌∷◌, List, refl, ap, sym, subst, ◌∙◌, append_assoc}
 use Rattle.std.proofs.lemmas.List.{append-nil}
 use Rattle.slab.specs.Slab.{get}
 use Rattle.dt_mrd.specs.declared.turn.Turn.{Turn}
-use Rattle.dt_mrd.specs.Levels.{KeptAt, IsLevel}
+use Rattle.dt_mrd.specs.Levels.{IsLevel}
 use Rattle.dt_mrd.proofs.LevelSteps.{extends_then, next_level, no_first}
 use Rattle.dt_mrd.proofs.levels.lay_rows.Goals as goal
 

@@ -1,5 +1,4 @@
 use Rattle.dt_fit.specs.Cells.{is_tried}
-use Rattle.dt_mrd.specs.Midway.{given_up}
 use Rattle.dt_mrd.proofs.row_turn.choose_tag.Goals as goal
 
 pub returns-clause-chosen : goal.returns-clause-chosen

@@ -1,4 +1,4 @@
-use Rattle.std.proofs.Common.{◌≡◌, ◌&&◌, ◌-◌, ◌<◌, ℕ, is_some, option_copied, Bool, false, Option, List, sym, ap, subst, ◌∙◌}
+use Rattle.std.proofs.Common.{◌≡◌, ◌&&◌, ℕ, is_some, option_copied, false, Option, List, sym, ap, subst, ◌∙◌}
 use Rattle.slab.specs.Slab.{get}
 use Rattle.dt_pages.specs.Image.{look_up}
 use Rattle.dt_pages.specs.Draft.{laid_over}

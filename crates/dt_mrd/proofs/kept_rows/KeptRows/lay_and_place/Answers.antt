@@ -28,9 +28,12 @@ place-requires-clause-able c =
     let found = c.in_ok-roots.ensures.selectors in
     let same_turns : turns ≡ found.0 = c.as_slice.ensures.value ∙ found.1 ∙ ap (λ (l : List Turn). l ++ found.0) c.new-turns.ensures.items in
     let selectors : AreSelectors kept.roots.items (get kept.rows) kept.fresh.items changes staged turns (get laid.rows) laid.fresh.items
-    = subst (λ (l : List Turn). AreSelectors kept.roots.items (get kept.rows) kept.fresh.items changes staged l (get laid.rows) laid.fresh.items) (sym same_turns) found.2 in
-    (c.requires.0, changes, with_roots staged laid.roots.items,
-    can_place kept laid x first c.requires.0 changes staged turns c.requires.1 c.lay.ensures.rest_kept selectors)
+    = subst (λ (l : List Turn). AreSelectors kept.roots.items (get kept.rows) kept.fresh.items changes staged l (get laid.rows) laid.fresh.items) (sym same_turns) found.2 in (
+      c.requires.0,
+      changes,
+      with_roots staged laid.roots.items,
+      can_place kept laid x first c.requires.0 changes staged turns c.requires.1 c.lay.ensures.rest_kept selectors,
+    )
 
 pub returns-in_err-place-clause-stands : goal.returns-in_err-place-clause-stands
 returns-in_err-place-clause-stands c = λ x held st.

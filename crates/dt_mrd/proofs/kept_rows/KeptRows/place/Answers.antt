@@ -1,4 +1,4 @@
-use Rattle.std.proofs.Common.{◌≡◌, ℕ, List, [], Option, sym, subst}
+use Rattle.std.proofs.Common.{[], sym, subst}
 use Rattle.slab.specs.Slab.{get}
 use Rattle.dt_pages.specs.Image.{look_up}
 use Rattle.dt_pages.specs.Draft.{laid_over}

@@ -1,14 +1,12 @@
-use Rattle.std.proofs.Common.{◌≡◌, ◌==◌, ◌+◌, List, Option, None, ℕ, drop, get_or, if◌then◌else◌, refl, sym, ap, ◌∙◌}
+use Rattle.std.proofs.Common.{◌≡◌, ◌==◌, None, get_or, if◌then◌else◌, refl, ap, ◌∙◌}
 use Rattle.slab.specs.Slab.{get}
 use Rattle.dt_pages.specs.Reading.{Reading}
 use Rattle.dt_pages.specs.Draft.{laid_over}
-use Rattle.dt_mrd.specs.declared.kept_row.KeptRow.{KeptRow}
 use Rattle.dt_mrd.specs.declared.staged.StagedRoot.{StagedRoot}
 use Rattle.dt_cells.specs.Regions.{place_of}
 use Rattle.dt_mrd.specs.Kept.{row_at, tag_in}
-use Rattle.dt_mrd.specs.Staging.{with_places}
 use Rattle.dt_mrd.proofs.PlaceWords.{place_step}
-use Rattle.dt_mrd.proofs.kept_rows.set_places.Goals as goal
+use Rattle.dt_mrd.proofs.staging.set_places.Goals as goal
 
 pub loop-root-preserved : goal.loop-root-preserved
 loop-root-preserved c = λ base address.

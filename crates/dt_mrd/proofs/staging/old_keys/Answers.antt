@@ -1,9 +1,9 @@
-use Rattle.std.proofs.Common.{◌≡◌, ◌++◌, [], ℕ, Vec, Global, Option, None, Some, take, refl, sym, ap, ◌∙◌}
+use Rattle.std.proofs.Common.{◌++◌, [], ℕ, Vec, Global, None, Some, take, sym, ap, ◌∙◌}
 use Rattle.std.proofs.lemmas.List.{append-nil}
 use Rattle.std.specs.List.{cons_option}
 use Rattle.dt_mrd.proofs.OldKeys.{old_keys, old_more}
-use Rattle.dt_mrd.proofs.kept_rows.old_keys.Goals.{in-Some+in_ok-push, in_default}
-use Rattle.dt_mrd.proofs.kept_rows.old_keys.Goals as goal
+use Rattle.dt_mrd.proofs.staging.old_keys.Goals.{in-Some+in_ok-push, in_default}
+use Rattle.dt_mrd.proofs.staging.old_keys.Goals as goal
 
 pub loop-turn-preserved : goal.loop-turn-preserved
 loop-turn-preserved c =
