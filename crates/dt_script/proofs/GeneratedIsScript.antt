@@ -1,19 +1,18 @@
 -- A generated text is the script of its lines.
-use Rattle.std.proofs.Common.{◌≡◌, ◌==◌, ℕ, ◌≤◌, true, false, not, IsTrue, List, [], ◌∷◌, ◌++◌, map, reverse, codes, inr, refl, sym, ap, subst, ◌∙◌, append_assoc, append-nil, lit<}
+use Rattle.std.proofs.Common.{◌≡◌, ◌==◌, ℕ, ◌≤◌, true, false, not, IsTrue, List, [], ◌∷◌, ◌++◌, map, reverse, inr, refl, sym, ap, subst, ◌∙◌, append_assoc, append-nil, lit<}
 use Rattle.std.specs.List.{join_with_byte, list_all}
 use Rattle.std.proofs.lemmas.Bool.{not_from_false, and_parts, and_from}
 use Rattle.std.proofs.lemmas.List.Folds.{list_all-append}
 use Rattle.std.proofs.lemmas.List.{reverse-append, reverse-reverse, map-append}
-use Rattle.dt_selectors.specs.Names.{is_name}
 use Rattle.dt_script.specs.Cut.{is_free_of}
-use Rattle.dt_script.specs.NameBook.{NameBook, empty_book, is_within_limits}
+use Rattle.dt_script.specs.NameBook.{NameBook, is_within_limits}
 use Rattle.dt_script.specs.Line.{LineOf}
 use Rattle.dt_script.specs.Lines.{lines_of, is_silent}
-use Rattle.dt_script.specs.Place.{has_ended, may_stand}
+use Rattle.dt_script.specs.Place.{may_stand}
 use Rattle.dt_script.specs.Script.{script_of}
-use Rattle.dt_script.specs.ScriptOf.{WereRead, HasHeader, IsScriptOf}
+use Rattle.dt_script.specs.ScriptOf.{WereRead, IsScriptOf}
 use Rattle.dt_script.specs.GeneratedSize.{IsSize}
-use Rattle.dt_script.specs.GeneratedLaws.{numbered_book, generated_script, GeneratedIsScript}
+use Rattle.dt_script.specs.GeneratedLaws.{generated_script, GeneratedIsScript}
 use Rattle.dt_script.specs.GeneratedLines.{class_lines, after_classes, selector_lines, definition_count, definition_lines, after_program, calling_lines, caller_count, after_callers, edit_lines, after_edits, first_parent, tuple_at, generated_lines}
 use Rattle.dt_script.specs.GeneratedText.{generated_line, text_of_lines}
 use Rattle.dt_script.specs.declared.line.Line.{Line}
@@ -22,7 +21,7 @@ use Rattle.dt_script.proofs.LawfulBooks.{NamesLaw}
 use Rattle.dt_script.proofs.LinesCut.{line_first}
 use Rattle.dt_script.proofs.Malformed.{names-free}
 use Rattle.dt_script.proofs.OneAnswer.{line_speaks}
-use Rattle.dt_script.proofs.GeneratedPlaces.{Situation, Fits, Stands, Step, book_at, within, end_may, end_is_line}
+use Rattle.dt_script.proofs.GeneratedPlaces.{Situation, Fits, Stands, book_at, within, end_may, end_is_line}
 use Rattle.dt_script.proofs.GeneratedRun.{GoesOn, goes-append, sit, full, full_fits, classes_go, selectors_go, definitions_go, callers_go, edits_go}
 
 -- ---- a list onto another, latest first
@@ -126,7 +125,7 @@ script_of_body law readers body done fits closed goes =
     let ran = run readers body [] (Header ∷ []) (sit 0 0 0 false false 0) done goes (record { were = (refl, refl); stands = header_stands }) in
     let end : LineOf (generated_line End) (book_at done) End (book_at done) = end_is_line law readers done fits in
     let free : AreFree (Header ∷ body ++ End ∷ []) =
-        (refl, free-append body (End ∷ []) (goes_free readers body (sit 0 0 0 false false 0) done goes) (line_free (generated_line End) (book_at done) (book_at done) End end, tt)) in
+    (refl, free-append body (End ∷ []) (goes_free readers body (sit 0 0 0 false false 0) done goes) (line_free (generated_line End) (book_at done) (book_at done) End end, tt)) in
     record {
       texts = map generated_line (body ++ End ∷ []);
       book = book_at done;
@@ -176,9 +175,9 @@ module _ (law : NamesLaw) (number classes selectors readers : ℕ) (size : IsSiz
   whole =
       let program : List Line = class_lines number classes ++ selector_lines selectors ++ definition_lines classes selectors (after_classes number classes) in
       let phases : List Line =
-          calling_lines classes selectors (after_program number classes selectors)
-          ++ edit_lines (first_parent number) (tuple_at classes selectors (after_classes number classes)) classes selectors (after_callers selectors (after_program number classes selectors))
-          ++ calling_lines classes selectors (after_edits (after_callers selectors (after_program number classes selectors))) in
+      calling_lines classes selectors (after_program number classes selectors)
+      ++ edit_lines (first_parent number) (tuple_at classes selectors (after_classes number classes)) classes selectors (after_callers selectors (after_program number classes selectors))
+      ++ calling_lines classes selectors (after_edits (after_callers selectors (after_program number classes selectors))) in
       ap (λ l. Header ∷ l) (sym (append_assoc program phases (End ∷ [])))
 
   is_script : IsScriptOf readers (text_of_lines (generated_lines number classes selectors)) (generated_script number classes selectors)

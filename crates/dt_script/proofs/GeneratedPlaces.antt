@@ -1,12 +1,10 @@
 -- Where a generated script stands after some lines, and how each kind of line goes on from there.
 use Rattle.std.proofs.Common.{◌≡◌, ◌==◌, ℕ, ◌+◌, ◌<◌, ◌≤◌, Bool, true, false, cond, not, ◌&&◌, nat_le, IsTrue, List, [], ◌∷◌, ◌++◌, length, map, codes, decimal, Option, None, Some, refl, sym, ap, subst, ◌∙◌, append_assoc, arith}
 use Rattle.std.specs.Prelude.{is_none, is_some}
-use Rattle.std.specs.List.{list_all}
 use Rattle.std.proofs.lemmas.Bool.{and_from}
 use Rattle.std.proofs.lemmas.Bool.Decides.{nat_tests}
 use Rattle.std.proofs.lemmas.List.FromFn.{length-map-range_with_len}
 use Rattle.dt_scratch.specs.Query.{Query}
-use Rattle.dt_selectors.specs.Names.{is_name}
 use Rattle.dt_script.specs.NameBook.{NameBook, is_within_limits}
 use Rattle.dt_script.specs.LawfulBook.{LawfulBook}
 use Rattle.dt_script.specs.Word.{Word, Plain, Number, Class, Selector, Body, AreTexts, book_after}
@@ -15,7 +13,7 @@ use Rattle.dt_script.specs.Place.{is_in_batch, caller_after, has_stood, has_ende
 use Rattle.dt_script.specs.GeneratedLaws.{numbered_book, numbered_names}
 use Rattle.dt_script.specs.GeneratedText.{generated_word, generated_line}
 use Rattle.dt_script.specs.declared.line.Line.{Line}
-use Rattle.dt_script.specs.declared.line.Line.TheVariants.{Header, AddClass, Link, Unlink, AddSelector, Define, Undefine, Begin, Commit, Phase, Caller, Call, End}
+use Rattle.dt_script.specs.declared.line.Line.TheVariants.{AddClass, Link, Unlink, AddSelector, Define, Undefine, Begin, Commit, Phase, Caller, Call, End}
 use Rattle.dt_script.proofs.FitLines.{words_are_names, line_fit, range_short}
 use Rattle.dt_script.proofs.LawfulBooks.{NamesLaw, words_known}
 use Rattle.dt_script.proofs.GeneratedNames.{AreIn, texts_in, lawful_book, one_new, next_class, next_selector, next_body}
@@ -200,10 +198,10 @@ module _ (law : NamesLaw) (readers : ℕ) where
       let lawful' = lawful_at law (with_body at) after in
       let front : List Word = Plain (codes "define") ∷ Selector selector ∷ map Class classes ++ Plain (codes "->") ∷ [] in
       let whole : front ++ Body at.bodies ∷ [] ≡ words_of (Define selector classes at.bodies) =
-          ap (λ l. Plain (codes "define") ∷ Selector selector ∷ l) (append_assoc (map Class classes) (Plain (codes "->") ∷ []) (Body at.bodies ∷ [])) in
+      ap (λ l. Plain (codes "define") ∷ Selector selector ∷ l) (append_assoc (map Class classes) (Plain (codes "->") ∷ []) (Body at.bodies ∷ [])) in
       let known : AreIn at.classes at.selectors at.bodies front = (tt, (named, in-append at.classes at.selectors at.bodies (map Class classes) (Plain (codes "->") ∷ []) (classes_in at.classes at.selectors at.bodies classes below) (tt, tt))) in
       let all : AreIn at.classes at.selectors (at.bodies + 1) (words_of (Define selector classes at.bodies)) =
-          (tt, (named, in-append at.classes at.selectors (at.bodies + 1) (map Class classes) (Plain (codes "->") ∷ Body at.bodies ∷ []) (classes_in at.classes at.selectors (at.bodies + 1) classes below) (tt, (omega arith, tt)))) in
+      (tt, (named, in-append at.classes at.selectors (at.bodies + 1) (map Class classes) (Plain (codes "->") ∷ Body at.bodies ∷ []) (classes_in at.classes at.selectors (at.bodies + 1) classes below) (tt, (omega arith, tt)))) in
       edit_step readers (Define selector classes at.bodies) at (with_body at)
       (record { going = λ past. refl; in_batch = λ past. refl; calling = λ past. refl; stood = λ caller past. refl; may = λ r past. refl })
       (line_in_book (book_at at) (book_at (with_body at)) (Define selector classes at.bodies) lawful' range

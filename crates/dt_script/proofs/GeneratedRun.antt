@@ -1,12 +1,12 @@
 -- Generated lines lead from the header to the end, one after the other.
-use Rattle.std.proofs.Common.{◌≡◌, ◌==◌, ℕ, ◌+◌, ◌-◌, ◌*◌, ◌%◌, ◌<◌, ◌≤◌, Bool, true, false, cond, not, ◌||◌, nat_lt, IsTrue, zero, suc, List, [], ◌∷◌, ◌++◌, length, refl, sym, ap, subst, ◌∙◌, arith, eq-eqb}
+use Rattle.std.proofs.Common.{◌≡◌, ◌==◌, ℕ, ◌+◌, ◌-◌, ◌%◌, ◌<◌, ◌≤◌, Bool, true, false, cond, not, ◌||◌, nat_lt, IsTrue, zero, suc, List, [], ◌∷◌, ◌++◌, length, refl, sym, ap, subst, arith, eq-eqb}
 use Rattle.std.proofs.lemmas.Bool.Decides.{nat_tests}
-use Rattle.dt_script.specs.Draw.{next_state, number_of, drawn, state_after}
+use Rattle.dt_script.specs.Draw.{next_state, drawn, state_after}
 use Rattle.dt_script.specs.Line.{is_from_one_to}
 use Rattle.dt_script.specs.GeneratedSize.{IsSize}
-use Rattle.dt_script.specs.GeneratedLines.{lines_in_turn, second_parent, parents_drawn, after_parents, class_line, class_lines, after_classes, arity_of_number, selector_line, after_selector, selector_lines, definition_count, is_first_of_batch, is_last_of_batch, classes_drawn, selector_of, tuple_of, after_definition, definition_line, definition_lines, caller_count, call_count, call_line, after_call, caller_lines, after_caller, calling_lines, edit_count, first_parent, tuple_at, undefine_line, define_line, class_drawn, edit_line, after_edit, edit_lines}
+use Rattle.dt_script.specs.GeneratedLines.{lines_in_turn, second_parent, parents_drawn, after_parents, class_line, class_lines, after_classes, arity_of_number, selector_line, after_selector, selector_lines, definition_count, is_first_of_batch, is_last_of_batch, classes_drawn, selector_of, tuple_of, after_definition, definition_line, definition_lines, caller_count, call_count, call_line, after_call, caller_lines, after_caller, calling_lines, edit_count, first_parent, tuple_at, class_drawn, edit_line, after_edit, edit_lines}
 use Rattle.dt_script.specs.declared.line.Line.{Line}
-use Rattle.dt_script.specs.declared.line.Line.TheVariants.{AddClass, Link, Unlink, AddSelector, Define, Undefine, Begin, Commit, Phase, Caller, Call}
+use Rattle.dt_script.specs.declared.line.Line.TheVariants.{AddClass, Link, Unlink, AddSelector, Define, Undefine, Begin, Commit, Call}
 use Rattle.dt_script.proofs.LawfulBooks.{NamesLaw}
 use Rattle.dt_script.proofs.GeneratedWhole.{drawn-below}
 use Rattle.dt_script.proofs.GeneratedPlaces.{Situation, Fits, Step, AreBelow, class_step, selector_step, define_step, again_step, undefine_step, link_step, unlink_step, begin_step, commit_step, phase_step, caller_step, call_step}
@@ -54,12 +54,11 @@ below_if bound false xs ys are are' = are'
 
 pub parents_below : (state class : ℕ) → AreBelow class (parents_drawn state class)
 parents_below state zero = tt
-parents_below state (suc class) =
-    (
-      drawn-below state (suc class) (omega arith),
-      below_if (suc class) (drawn (next_state state) 4 == 0) (second_parent (next_state (next_state state)) (suc class) (drawn state (suc class))) []
+parents_below state (suc class) = (
+  drawn-below state (suc class) (omega arith),
+  below_if (suc class) (drawn (next_state state) 4 == 0) (second_parent (next_state (next_state state)) (suc class) (drawn state (suc class))) []
       (below_if (suc class) (drawn (next_state (next_state state)) (suc class) == drawn state (suc class)) [] (drawn (next_state (next_state state)) (suc class) ∷ []) tt (drawn-below (next_state (next_state state)) (suc class) (omega arith), tt)) tt,
-    )
+)
 
 pub tuple_below : (classes state places : ℕ) → 0 < classes → AreBelow classes (classes_drawn classes state places)
 tuple_below classes state zero some = tt
@@ -99,11 +98,11 @@ module _ (law : NamesLaw) (readers classes selectors : ℕ) (size : IsSize class
     sit 0 0 0 true false 0,
     begin_step law readers (sit 0 0 0 false false 0) (sit 0 0 0 true false 0) (fits_at 0 0 0 false false 0 (omega arith) (omega arith) (omega arith)) refl refl refl refl refl refl,
     goes-append readers (lines_in_turn class_line after_parents state 0 classes) (Commit ∷ []) (sit 0 0 0 true false 0) (sit classes 0 0 true false 0) (sit classes 0 0 false false 0)
-    (from_zero readers class_line after_parents (λ n. sit n 0 0 true false 0) state classes (λ s n below.
-    one_step readers (AddClass n (parents_drawn s n)) (sit n 0 0 true false 0) (sit (n + 1) 0 0 true false 0)
-    (class_step law readers (sit n 0 0 true false 0) (parents_drawn s n) (fits_at n 0 0 true false 0 (omega (arith, below)) (omega arith) (omega arith)) (omega (arith, below, size.classes_in_range)) refl (parents_below s n))))
-    (one_step readers Commit (sit classes 0 0 true false 0) (sit classes 0 0 false false 0)
-    (commit_step law readers (sit classes 0 0 true false 0) (sit classes 0 0 false false 0) (fits_at classes 0 0 true false 0 (omega arith) (omega arith) (omega arith)) refl refl refl refl refl)),
+        (from_zero readers class_line after_parents (λ n. sit n 0 0 true false 0) state classes (λ s n below.
+        one_step readers (AddClass n (parents_drawn s n)) (sit n 0 0 true false 0) (sit (n + 1) 0 0 true false 0)
+        (class_step law readers (sit n 0 0 true false 0) (parents_drawn s n) (fits_at n 0 0 true false 0 (omega (arith, below)) (omega arith) (omega arith)) (omega (arith, below, size.classes_in_range)) refl (parents_below s n))))
+        (one_step readers Commit (sit classes 0 0 true false 0) (sit classes 0 0 false false 0)
+        (commit_step law readers (sit classes 0 0 true false 0) (sit classes 0 0 false false 0) (fits_at classes 0 0 true false 0 (omega arith) (omega arith) (omega arith)) refl refl refl refl refl)),
   )
 
   pub selectors_go : GoesOn readers (selector_lines selectors) (sit classes 0 0 false false 0) (sit classes selectors 0 false false 0)
@@ -111,11 +110,11 @@ module _ (law : NamesLaw) (readers classes selectors : ℕ) (size : IsSize class
     sit classes 0 0 true false 0,
     begin_step law readers (sit classes 0 0 false false 0) (sit classes 0 0 true false 0) (fits_at classes 0 0 false false 0 (omega arith) (omega arith) (omega arith)) refl refl refl refl refl refl,
     goes-append readers (lines_in_turn selector_line after_selector 0 0 selectors) (Commit ∷ []) (sit classes 0 0 true false 0) (sit classes selectors 0 true false 0) (sit classes selectors 0 false false 0)
-    (from_zero readers selector_line after_selector (λ n. sit classes n 0 true false 0) 0 selectors (λ s n below.
-    one_step readers (AddSelector n (arity_of_number n)) (sit classes n 0 true false 0) (sit classes (n + 1) 0 true false 0)
-    (selector_step law readers (sit classes n 0 true false 0) (arity_of_number n) (fits_at classes n 0 true false 0 (omega arith) (omega (arith, below)) (omega arith)) (omega (arith, below, size.selectors_in_range)) refl (arity_in_range (n % 50 == 49)))))
-    (one_step readers Commit (sit classes selectors 0 true false 0) (sit classes selectors 0 false false 0)
-    (commit_step law readers (sit classes selectors 0 true false 0) (sit classes selectors 0 false false 0) (fits_at classes selectors 0 true false 0 (omega arith) (omega arith) (omega arith)) refl refl refl refl refl)),
+        (from_zero readers selector_line after_selector (λ n. sit classes n 0 true false 0) 0 selectors (λ s n below.
+        one_step readers (AddSelector n (arity_of_number n)) (sit classes n 0 true false 0) (sit classes (n + 1) 0 true false 0)
+        (selector_step law readers (sit classes n 0 true false 0) (arity_of_number n) (fits_at classes n 0 true false 0 (omega arith) (omega (arith, below)) (omega arith)) (omega (arith, below, size.selectors_in_range)) refl (arity_in_range (n % 50 == 49)))))
+        (one_step readers Commit (sit classes selectors 0 true false 0) (sit classes selectors 0 false false 0)
+        (commit_step law readers (sit classes selectors 0 true false 0) (sit classes selectors 0 false false 0) (fits_at classes selectors 0 true false 0 (omega arith) (omega arith) (omega arith)) refl refl refl refl refl)),
   )
 
   -- ---- definitions
@@ -178,12 +177,11 @@ module _ (law : NamesLaw) (readers classes selectors : ℕ) (size : IsSize class
 
   caller_goes : (s caller : ℕ) → 1 ≤ caller → caller < 5 → caller_count ≤ readers → GoesOn readers (caller_lines classes selectors s caller) (called caller) (called (caller + 1))
   caller_goes s caller first last enough =
-      let calls : true ≡ nat_lt 1 (caller + 1) = grind (arith, nat_tests) in
-      (
+      let calls : true ≡ nat_lt 1 (caller + 1) = grind (arith, nat_tests) in (
         full true (caller + 1),
         caller_step law readers (called caller) (full true (caller + 1)) caller (full_fits (nat_lt 1 caller) caller) refl refl refl refl refl refl first (omega (arith, last, enough)) (omega (arith, last)),
         subst (λ b. GoesOn readers (lines_in_turn (call_line classes selectors) (after_call selectors) s 0 call_count) (full true (caller + 1)) (full b (caller + 1))) calls
-        (from_zero readers (call_line classes selectors) (after_call selectors) (λ n. full true (caller + 1)) s call_count (λ t n below. call_goes (caller + 1) t n)),
+            (from_zero readers (call_line classes selectors) (after_call selectors) (λ n. full true (caller + 1)) s call_count (λ t n below. call_goes (caller + 1) t n)),
       )
 
   pub callers_go : (state : ℕ) → caller_count ≤ readers → GoesOn readers (calling_lines classes selectors state) (full false 0) (full true 5)

@@ -1,14 +1,14 @@
 -- A generated text has no more bytes than a script may have.
-use Rattle.std.proofs.Common.{◌≡◌, ◌==◌, ℕ, ◌+◌, ◌-◌, ◌*◌, ◌%◌, ◌^◌, ◌<◌, ◌≤◌, Bool, true, false, cond, zero, suc, List, [], ◌∷◌, ◌++◌, length, map, flat_map, codes, decimal, refl, sym, ap, subst, ◌∙◌, length-append, arith}
+use Rattle.std.proofs.Common.{◌≡◌, ◌==◌, ℕ, ◌+◌, ◌-◌, ◌*◌, ◌%◌, ◌<◌, ◌≤◌, Bool, true, false, cond, zero, suc, List, [], ◌∷◌, ◌++◌, length, codes, decimal, ap, ◌∙◌, length-append, arith}
 use Rattle.std.proofs.lemmas.Fmt.{length-decimal-le}
 use Rattle.dt_scratch.specs.Query.{Query}
 use Rattle.dt_script.specs.Draw.{next_state, drawn, state_after}
 use Rattle.dt_script.specs.GeneratedSize.{IsSize}
 use Rattle.dt_script.specs.GeneratedLaws.{GeneratedIsShort}
-use Rattle.dt_script.specs.GeneratedLines.{lines_in_turn, second_parent, parents_drawn, after_parents, class_line, class_lines, after_classes, arity_of_number, selector_line, after_selector, selector_lines, definition_count, is_first_of_batch, is_last_of_batch, classes_drawn, selector_of, tuple_of, after_definition, definition_line, definition_lines, caller_count, call_count, call_line, after_call, caller_lines, after_caller, calling_lines, edit_count, first_parent, tuple_at, undefine_line, define_line, class_drawn, edit_line, after_edit, edit_lines, program_lines, phase_lines, generated_lines, after_program, after_callers, after_edits}
-use Rattle.dt_script.specs.GeneratedText.{generated_line, ended, text_of_lines}
+use Rattle.dt_script.specs.GeneratedLines.{lines_in_turn, parents_drawn, after_parents, class_line, class_lines, after_classes, arity_of_number, selector_line, after_selector, selector_lines, definition_count, is_first_of_batch, is_last_of_batch, classes_drawn, selector_of, tuple_of, after_definition, definition_line, definition_lines, caller_count, call_count, call_line, after_call, caller_lines, after_caller, calling_lines, edit_count, first_parent, tuple_at, class_drawn, edit_line, after_edit, edit_lines, program_lines, phase_lines, after_program, after_callers, after_edits}
+use Rattle.dt_script.specs.GeneratedText.{ended, text_of_lines}
 use Rattle.dt_script.specs.declared.line.Line.{Line}
-use Rattle.dt_script.specs.declared.line.Line.TheVariants.{Header, AddClass, Link, Unlink, AddSelector, Define, Undefine, Begin, Commit, Phase, Caller, Call, End}
+use Rattle.dt_script.specs.declared.line.Line.TheVariants.{Header, AddClass, Link, Unlink, AddSelector, Define, Undefine, Begin, Commit, Caller, Call, End}
 use Rattle.dt_script.proofs.GeneratedSpelling.{tuple_text, undefine_text, call_text, define_text, class_text}
 use Rattle.dt_script.proofs.GeneratedPlaces.{AreBelow}
 use Rattle.dt_script.proofs.GeneratedRun.{parents_below, tuple_below}
@@ -60,7 +60,7 @@ define_length selector classes body bound small small' few below two =
     let key = keyed_length (codes "define") selector classes bound (omega arith) small few below two in
     let front : List ℕ = codes "define" ++ 32 ∷ 115 ∷ decimal selector ++ tuple_text classes in
     let whole : length (((front ++ codes " ->") ++ 32 ∷ 98 ∷ decimal body) ++ 10 ∷ []) ≡ length front + 3 + (2 + length (decimal body)) + 1 =
-        omega (arith, length-append ((front ++ codes " ->") ++ 32 ∷ 98 ∷ decimal body) (10 ∷ []), length-append (front ++ codes " ->") (32 ∷ 98 ∷ decimal body), length-append front (codes " ->")) in
+    omega (arith, length-append ((front ++ codes " ->") ++ 32 ∷ 98 ∷ decimal body) (10 ∷ []), length-append (front ++ codes " ->") (32 ∷ 98 ∷ decimal body), length-append front (codes " ->")) in
     omega (arith, text ∙ whole, key, digits body small')
 
 undefine_length : (selector : ℕ) (classes : List ℕ) (bound : ℕ) → selector < 65536 → bound ≤ 65536 → AreBelow bound classes → length classes ≤ 2 → length (ended (Undefine selector classes)) ≤ most
@@ -76,7 +76,7 @@ call_length query bound small few below two =
 link_length : (class parent : ℕ) → class < 65536 → parent < 65536 → (length (ended (Link class parent)) ≤ most) × (length (ended (Unlink class parent)) ≤ most)
 link_length class parent small small' =
     let whole : length ((decimal class ++ 32 ∷ 60 ∷ 32 ∷ 99 ∷ decimal parent) ++ 10 ∷ []) ≤ 15 =
-        omega (arith, digits class small, digits parent small', length-append (decimal class ++ 32 ∷ 60 ∷ 32 ∷ 99 ∷ decimal parent) (10 ∷ []), length-append (decimal class) (32 ∷ 60 ∷ 32 ∷ 99 ∷ decimal parent)) in
+    omega (arith, digits class small, digits parent small', length-append (decimal class ++ 32 ∷ 60 ∷ 32 ∷ 99 ∷ decimal parent) (10 ∷ []), length-append (decimal class) (32 ∷ 60 ∷ 32 ∷ 99 ∷ decimal parent)) in
     (omega (arith, whole), omega (arith, whole))
 
 caller_length : (caller : ℕ) → caller < 65536 → length (ended (Caller caller)) ≤ most
@@ -142,13 +142,13 @@ module _ (classes selectors : ℕ) (size : IsSize classes selectors) where
   classes_short : (state : ℕ) → length (text_of_lines (class_lines state classes)) ≤ 200000
   classes_short state =
       let lines = in_turn_short class_line after_parents 64 state 0 classes (λ s n below.
-          one_short (AddClass n (parents_drawn s n)) (class_length n (parents_drawn s n) (omega (arith, below, size.classes_in_range)) (parents_below s n) (parents_few s n))) in
+      one_short (AddClass n (parents_drawn s n)) (class_length n (parents_drawn s n) (omega (arith, below, size.classes_in_range)) (parents_below s n) (parents_few s n))) in
       omega (arith, batch_short (lines_in_turn class_line after_parents state 0 classes) (64 * classes) lines, size.classes_in_range)
 
   selectors_short : length (text_of_lines (selector_lines selectors)) ≤ 300000
   selectors_short =
       let lines = in_turn_short selector_line after_selector 64 0 0 selectors (λ s n below.
-          one_short (AddSelector n (arity_of_number n)) (selector_length n (arity_of_number n) (omega (arith, below, size.selectors_in_range)) (arity_small (n % 50 == 49)))) in
+      one_short (AddSelector n (arity_of_number n)) (selector_length n (arity_of_number n) (omega (arith, below, size.selectors_in_range)) (arity_small (n % 50 == 49)))) in
       omega (arith, batch_short (lines_in_turn selector_line after_selector 0 0 selectors) (64 * selectors) lines, size.selectors_in_range)
 
   selector_below : (n : ℕ) → selector_of selectors n < selectors
@@ -157,11 +157,14 @@ module _ (classes selectors : ℕ) (size : IsSize classes selectors) where
   definition_short : (s n : ℕ) → n < definition_count selectors → length (text_of_lines (definition_line classes selectors s n)) ≤ 80
   definition_short s n below =
       let define : length (ended (Define (selector_of selectors n) (tuple_of classes selectors s n) n)) ≤ most =
-          define_length (selector_of selectors n) (tuple_of classes selectors s n) n classes (omega (arith, selector_below n, size.selectors_in_range)) (omega (arith, below, size.selectors_in_range))
-          (omega (arith, size.classes_in_range)) (tuple_below classes s (arity_of_number (selector_of selectors n)) (omega (arith, size.two_classes))) (tuple_few classes s (selector_of selectors n % 50 == 49)) in
-      omega (arith, both_short (cond (is_first_of_batch n) (Begin ∷ []) [] ++ Define (selector_of selectors n) (tuple_of classes selectors s n) n ∷ []) (cond (is_last_of_batch selectors n) (Commit ∷ []) []) 70 7
-      (both_short (cond (is_first_of_batch n) (Begin ∷ []) []) (Define (selector_of selectors n) (tuple_of classes selectors s n) n ∷ []) 6 64 (begin_short (is_first_of_batch n)) (one_short (Define (selector_of selectors n) (tuple_of classes selectors s n) n) define))
-      (commit_short (is_last_of_batch selectors n)))
+      define_length (selector_of selectors n) (tuple_of classes selectors s n) n classes (omega (arith, selector_below n, size.selectors_in_range)) (omega (arith, below, size.selectors_in_range))
+      (omega (arith, size.classes_in_range)) (tuple_below classes s (arity_of_number (selector_of selectors n)) (omega (arith, size.two_classes))) (tuple_few classes s (selector_of selectors n % 50 == 49)) in
+      omega (
+        arith,
+        both_short (cond (is_first_of_batch n) (Begin ∷ []) [] ++ Define (selector_of selectors n) (tuple_of classes selectors s n) n ∷ []) (cond (is_last_of_batch selectors n) (Commit ∷ []) []) 70 7
+            (both_short (cond (is_first_of_batch n) (Begin ∷ []) []) (Define (selector_of selectors n) (tuple_of classes selectors s n) n ∷ []) 6 64 (begin_short (is_first_of_batch n)) (one_short (Define (selector_of selectors n) (tuple_of classes selectors s n) n) define))
+            (commit_short (is_last_of_batch selectors n)),
+      )
 
   definitions_short : (state : ℕ) → length (text_of_lines (definition_lines classes selectors state)) ≤ 1000000
   definitions_short state =
@@ -226,5 +229,8 @@ module _ (classes selectors : ℕ) (size : IsSize classes selectors) where
 
 pub generated_is_short : GeneratedIsShort
 generated_is_short number classes selectors size =
-    omega (arith, both_short (program_lines number classes selectors) (phase_lines (first_parent number) (tuple_at classes selectors (after_classes number classes)) classes selectors (after_program number classes selectors)) 1500011 1420004
-    (program_short classes selectors size number) (phases_short classes selectors size number (after_program number classes selectors)))
+    omega (
+      arith,
+      both_short (program_lines number classes selectors) (phase_lines (first_parent number) (tuple_at classes selectors (after_classes number classes)) classes selectors (after_program number classes selectors)) 1500011 1420004
+          (program_short classes selectors size number) (phases_short classes selectors size number (after_program number classes selectors)),
+    )

@@ -50,7 +50,11 @@ fn push_calls(
 }
 
 /// Puts a phase of callers at the end of the text.
-pub fn push_callers(text: &mut Vec<u8>, draws: &mut Draws, size: GeneratedSize) -> Result<(), NoMemory>
+pub fn push_callers(
+    text: &mut Vec<u8>,
+    draws: &mut Draws,
+    size: GeneratedSize,
+) -> Result<(), NoMemory>
     ensures text { OnOk result (text.new.items ≡ text.old.items
         ++ text_of_lines (calling_lines size.classes size.selectors draws.old)) }
     ensures state { OnOk result (draws.new ≡ after_callers size.selectors draws.old) }

@@ -18,4 +18,4 @@ returns c =
     let all : c.loop-selector.selector ≡ c.args.size.selectors = omega arith in
     let written = subst (λ n. WrittenSoFar selector_line after_selector c.push.new.text.items 0 0 n c.loop-selector.text.items 0) all c.loop-selector.invariant in
     on_ok c.push-2.result c.push-2.ensures (λ is. batch_written selector_line after_selector c.args.text.now.items c.push.new.text.items c.loop-selector.text.items c.push-2.new.text.items 0 0 c.args.size.selectors 0
-        c.in_ok-push.ensures written is)
+    c.in_ok-push.ensures written is)
