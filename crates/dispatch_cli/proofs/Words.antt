@@ -1,5 +1,5 @@
 -- What the number of an ending says, for the words that the arguments give.
-use Rattle.std.proofs.Common.{◌≡◌, ◌⊎◌, ◌∙◌, ℕ, List, Option, Result, Ok, Err, Some, None, IfSome, MatchResult, [], inl, inr, ap}
+use Rattle.std.proofs.Common.{◌≡◌, ◌⊎◌, ◌∙◌, ℕ, List, Option, Result, Ok, Err, Some, None, IfSome, IfErr, MatchResult, [], inl, inr, ap}
 use Rattle.dt_run.specs.Status.{number_of}
 use Rattle.dt_run.specs.declared.status.Status.{Status}
 use Rattle.dispatch_cli.specs.Arguments.{words_in}
@@ -28,3 +28,14 @@ numbers_end s a b P None e ends = tt
 pub whatever_bytes : (left : Option (List ℕ)) (P : List ℕ → Type 0) (Q : Type 0) → Q → IfSome left (λ bytes. P bytes → Q)
 whatever_bytes (Some bytes) P Q q = λ is. q
 whatever_bytes None P Q q = tt
+
+-- where words came, no other error did
+pub no_other_error : {A E : Type 0} (after : A → List (List ℕ)) (other wanted : E → Type 0) (P : Type 0) (args : Result A E) (words : List (List ℕ))
+    → ((error : E) → other error → wanted error → ⊥) → Gives after other args words → IfErr args (λ error. wanted error → P)
+no_other_error after other wanted P (Ok all) words never given = tt
+no_other_error after other wanted P (Err error) words never given = λ is. absurd (never error given.1 is)
+
+-- what holds anyway holds at an error
+pub whatever_error : {A E : Type 0} (args : Result A E) (wanted : E → Type 0) (P : Type 0) → P → IfErr args (λ error. wanted error → P)
+whatever_error (Ok all) wanted P p = tt
+whatever_error (Err error) wanted P p = λ is. p

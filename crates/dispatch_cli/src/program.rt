@@ -1,5 +1,6 @@
-ghost use Rattle.std.specs.Prelude.{◌≡◌, ◌+◌, ◌≤◌, ◌⊎◌, ℕ, None, Some, IfSome, map, drop, string_bytes};
+ghost use Rattle.std.specs.Prelude.{◌≡◌, ◌+◌, ◌≤◌, ◌⊎◌, ℕ, None, Some, IfSome, IfErr, map, drop, string_bytes};
 ghost use Rattle.std.specs.Vec.Iter.{into_iter_items};
+ghost use Rattle.std.specs.IoError.{error_kind};
 ghost use Rattle.dt_outside.specs.Faults.{Rose};
 ghost use Rattle.dt_outside.specs.Losing.{LosesAtMost};
 ghost use Rattle.dt_script.specs.declared.limits.TheConstants.{SCRIPT_BYTES};
@@ -14,6 +15,7 @@ use dt_run::{OpenTurnstile, Status, run};
 use std::alloc::Global;
 use std::env::Args;
 use std::io;
+use std::io::ErrorKind;
 use std::thread::Threads;
 
 /// The whole program over what the machine gives: its arguments, of which the first is the program's name, where the
@@ -31,10 +33,15 @@ pub fn exit_status<H: Threads + Sync, S: Source, K: Sink>(
         (outside (S.left source.old) (S.faults source.old) (K.taken sink.old) (K.faults sink.old))
         (outside (S.left source.new) (S.faults source.new) (K.taken sink.new) (K.faults sink.new)) }
 
-    // The words decide whether there is a command, unless memory is wanted.
+    // Where the machine finds no memory for its arguments, nothing is read or put.
+    ensures no_memory_for_words { IfErr args (λ error. error_kind error ≡ ErrorKind.OutOfMemory
+        → (result ≡ 6) × (source.new ≡ source.old) × (sink.new ≡ sink.old)) }
+
+    // The words decide whether there is a run, unless memory is wanted; where there is none, nothing is read.
     ensures usage { readers_of (words_in (λ all. drop 1 (map string_bytes (into_iter_items all))) args) ≡ None
         → (result ≡ 2) ⊎ (result ≡ 6) }
-    ensures usage_unread { result ≡ 2 → source.new ≡ source.old }
+    ensures unread { readers_of (words_in (λ all. drop 1 (map string_bytes (into_iter_items all))) args) ≡ None
+        → source.new ≡ source.old }
 
     // A fault of a script is always found, and a script is always performed, unless the outside fails or memory is
     // wanted.

@@ -3,7 +3,7 @@ use Rattle.dt_run.specs.Ending.{readers_of}
 use Rattle.dt_run.specs.Run.{IsScript, IsNoScript}
 use Rattle.dt_run.specs.Status.{number_of}
 use Rattle.dt_run.specs.declared.status.Status.TheVariants.{Done, Usage, Script, NoMemory}
-use Rattle.dispatch_cli.proofs.Words.{given_words, numbers_say, numbers_end, whatever_bytes}
+use Rattle.dispatch_cli.proofs.Words.{given_words, numbers_say, numbers_end, whatever_bytes, no_other_error, whatever_error}
 use Rattle.dispatch_cli.proofs.program.exit_status.Goals.{in-Ok, in-Err}
 use Rattle.dispatch_cli.proofs.program.exit_status.Goals as goal
 
@@ -19,6 +19,18 @@ returns-clause-ends g c = elim c.match-words_of.branch [
     c.number.ensures ∙ ap number_of w.status-is,
     inr (refl, (w.source-is, w.sink-is)),
   )
+]
+
+pub returns-clause-no_memory_for_words : goal.returns-clause-no_memory_for_words
+returns-clause-no_memory_for_words g c = elim c.match-words_of.branch [
+  | in-Ok w ↦ no_other_error _ _ _ _ _ _ (λ error not is. not is) w.in-Ok.ensures
+  | in-Err w ↦ whatever_error _ _ _ (c.number.ensures ∙ ap number_of w.status-is, w.source-is, w.sink-is)
+]
+
+pub returns-clause-unread : goal.returns-clause-unread
+returns-clause-unread g c = λ none. elim c.match-words_of.branch [
+  | in-Ok w ↦ w.source-is ∙ w.run.ensures.unread (ap readers_of (given_words _ _ _ w.in-Ok.words w.in-Ok.ensures) ∙ none)
+  | in-Err w ↦ w.source-is
 ]
 
 pub returns-clause-usage : goal.returns-clause-usage
