@@ -17,7 +17,7 @@ fn print_count<R: Threads + Sync + Print>(
     words: &[AtomicU64],
     job: &Job,
 ) -> io::Result<()> {
-    let (mut addresses, what) = (Addresses::new(job.mask & MASK), job.words);
+    let (mut addresses, what) = (Addresses::new(job.mask & MASK), job.name);
     let mut same = addresses;
     let ours = in_store(rt, stage, job.work, &mut addresses, COUNT);
     let plain = in_plain(rt, words, job.work, &mut same, COUNT);

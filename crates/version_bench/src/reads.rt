@@ -63,7 +63,8 @@ fn read_inside<L: Ledger>(
     sum
 }
 
-// The sum of so many words of one visit, in this ledger. The seat is the visit's own, and no other thread's memory to the compiler.
+// The sum of so many words of one visit, in this ledger. The seat is the visit's own, as the plain words' slice is: through a `&mut`
+// the compiler would load it anew for each word.
 fn read_all<'s, L: Ledger>(
     blank: Blank,
     seat: ReaderSeat<'s, Anything>,

@@ -115,6 +115,6 @@ pub fn time_job<R: Clock + Threads + Sync + Print + AllocGlobal>(
 ) -> Result<(), Fault> {
     let mut rows = Rows::new(rt.alloc(), job.unit);
     time_rounds(rt, &mut rows, stage, words, job)?;
-    rows.print(rt, job.words)?;
+    rows.print(rt, job.name)?;
     Ok(())
 }

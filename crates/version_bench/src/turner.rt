@@ -107,8 +107,8 @@ impl<'s> Turner<'s> {
         }
     }
 
-    // At most so many polls of a root that has these entries. The author is the loop's own, and no other thread's memory to the
-    // compiler.
+    // At most so many polls of a root that has these entries. The author is the loop's own, as the plain words' slice is: through a
+    // `&mut` the compiler would load it anew for each poll.
     fn poll_old(self, what: (u32, u32)) -> (Turner<'s>, u32)
         requires old { self.kept ≡ known.Old what.0 }
         ensures store { result.0.author.store ≡ self.entry.author.store }

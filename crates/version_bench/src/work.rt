@@ -12,17 +12,13 @@ use std::thread::Threads;
 pub enum Work {
     /// A reader looks, enters and leaves.
     Visits,
-    /// A reader enters once, and reads some of eight words through three pages each.
-    Few,
-    /// The same of all words.
-    Many,
+    /// A reader enters once, and reads words through three pages each.
+    Reads,
     /// The author lays and publishes a version, and polls the root before it, which is free then.
     Turns,
     /// The author polls a root that a reader holds.
     Polls,
-    /// A reader looks, enters and leaves.
-    One,
-    /// Two do, in threads of their own.
+    /// Two readers look, enter and leave, in threads of their own.
     Two,
     /// Four do.
     Four,
@@ -33,8 +29,8 @@ pub enum Work {
 pub struct Job {
     /// What is done.
     pub work: Work,
-    /// The words that are printed.
-    pub words: &'static str,
+    /// The name that is printed.
+    pub name: &'static str,
     /// The unit of its figures.
     pub unit: Unit,
     /// How many rounds are timed. Those of no threads are short, so that few are interrupted.
@@ -54,7 +50,7 @@ const ALL_BITS: u64 = 0xff_ffff;
 pub const ALL: [Job; 8] = [
     Job {
         work: Work::Visits,
-        words: "look, enter and leave",
+        name: "look, enter and leave",
         unit: Unit::Nanoseconds,
         rounds: 101,
         often: 20_000,
@@ -62,8 +58,8 @@ pub const ALL: [Job; 8] = [
         mask: ALL_BITS,
     },
     Job {
-        work: Work::Few,
-        words: "read a word of eight",
+        work: Work::Reads,
+        name: "read a word of eight",
         unit: Unit::Nanoseconds,
         rounds: 101,
         often: 100_000,
@@ -71,8 +67,8 @@ pub const ALL: [Job; 8] = [
         mask: 7,
     },
     Job {
-        work: Work::Many,
-        words: "read a word of all",
+        work: Work::Reads,
+        name: "read a word of all",
         unit: Unit::Nanoseconds,
         rounds: 101,
         often: 10_000,
@@ -81,7 +77,7 @@ pub const ALL: [Job; 8] = [
     },
     Job {
         work: Work::Turns,
-        words: "lay, publish and poll",
+        name: "lay, publish and poll",
         unit: Unit::Nanoseconds,
         rounds: 101,
         often: 10_000,
@@ -90,7 +86,7 @@ pub const ALL: [Job; 8] = [
     },
     Job {
         work: Work::Polls,
-        words: "poll a held root",
+        name: "poll a held root",
         unit: Unit::Nanoseconds,
         rounds: 101,
         often: 200_000,
@@ -98,8 +94,8 @@ pub const ALL: [Job; 8] = [
         mask: ALL_BITS,
     },
     Job {
-        work: Work::One,
-        words: "entries by 1 thread",
+        work: Work::Visits,
+        name: "entries by 1 thread",
         unit: Unit::Rate,
         rounds: 21,
         often: 100_000,
@@ -108,7 +104,7 @@ pub const ALL: [Job; 8] = [
     },
     Job {
         work: Work::Two,
-        words: "entries by 2 threads",
+        name: "entries by 2 threads",
         unit: Unit::Rate,
         rounds: 21,
         often: 100_000,
@@ -117,7 +113,7 @@ pub const ALL: [Job; 8] = [
     },
     Job {
         work: Work::Four,
-        words: "entries by 4 threads",
+        name: "entries by 4 threads",
         unit: Unit::Rate,
         rounds: 21,
         often: 100_000,
@@ -135,8 +131,8 @@ pub fn in_store<R: Threads + Sync>(
     count: u32,
 ) -> u64 {
     match work {
-        Work::Visits | Work::One => u64::from(stage.readers.one.one.visit(count)),
-        Work::Few | Work::Many => stage.readers.one.one.read(addresses, count),
+        Work::Visits => u64::from(stage.readers.one.one.visit(count)),
+        Work::Reads => stage.readers.one.one.read(addresses, count),
         Work::Turns => u64::from(stage.turner.turn_many(count)),
         Work::Polls => u64::from(stage.readers.one.one.hold(&mut stage.turner, count)),
         Work::Two => u64::from(visit_by_two(rt, &mut stage.readers.one, count)),
@@ -153,8 +149,8 @@ pub fn in_plain<R: Threads + Sync>(
     count: u32,
 ) -> u64 {
     match work {
-        Work::Visits | Work::One => u64::from(plain::visit_many(words, count)),
-        Work::Few | Work::Many => plain::read_many(words, addresses, count),
+        Work::Visits => u64::from(plain::visit_many(words, count)),
+        Work::Reads => plain::read_many(words, addresses, count),
         Work::Turns => u64::from(plain::turn_many(words, count)),
         Work::Polls => u64::from(plain::poll_many(words, count)),
         Work::Two => u64::from(visit_by_two(rt, &mut two(words), count)),
