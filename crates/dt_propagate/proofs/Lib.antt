@@ -19,7 +19,6 @@ pub mod Totals
 pub mod CellsAndRows
 pub mod MoreThan
 pub mod Counted
-pub mod Saturated
 pub mod Listed
 pub mod BelowOne
 pub mod GainedLists
