@@ -25,6 +25,7 @@ parents_drawn state class =
     then second_parent (next_state (next_state state)) class (drawn state class)
     else [])
 
+-- the state after the parents of a class are drawn
 abbrev pub after_parents : ℕ → ℕ → ℕ
 after_parents state zero = state
 after_parents state class =
@@ -32,9 +33,11 @@ after_parents state class =
     then next_state (next_state (next_state state))
     else next_state (next_state state)
 
+-- the line of a class
 abbrev pub class_line : ℕ → ℕ → List Line
 class_line state class = AddClass class (parents_drawn state class) ∷ []
 
+-- the batch of the classes, and the state after it
 abbrev pub class_lines : ℕ → ℕ → List Line
 class_lines state classes = Begin ∷ lines_in_turn class_line after_parents state 0 classes ++ Commit ∷ []
 
@@ -47,13 +50,15 @@ after_classes state classes = state_after after_parents state 0 classes
 abbrev pub arity_of_number : ℕ → ℕ
 arity_of_number selector = if selector % 50 == 49 then 2 else 1
 
+-- the line of a selector
 abbrev pub selector_line : ℕ → ℕ → List Line
 selector_line state selector = AddSelector selector (arity_of_number selector) ∷ []
 
--- nothing is drawn
+-- nothing is drawn for a selector
 abbrev pub after_selector : ℕ → ℕ → ℕ
 after_selector state selector = state
 
+-- the batch of the selectors
 abbrev pub selector_lines : ℕ → List Line
 selector_lines selectors = Begin ∷ lines_in_turn selector_line after_selector 0 0 selectors ++ Commit ∷ []
 
@@ -79,24 +84,27 @@ abbrev pub classes_drawn : ℕ → ℕ → ℕ → List ℕ
 classes_drawn classes state zero = []
 classes_drawn classes state (suc places) = drawn state classes ∷ classes_drawn classes (next_state state) places
 
--- the definition of this number is of the selectors in turn
+-- the selector of a definition: the selectors come in turn
 abbrev pub selector_of : ℕ → ℕ → ℕ
 selector_of selectors number = number % selectors
 
--- at classes that are drawn
+-- the classes of a definition, as they are drawn at a state
 abbrev pub tuple_of : ℕ → ℕ → ℕ → ℕ → List ℕ
 tuple_of classes selectors state number = classes_drawn classes state (arity_of_number (selector_of selectors number))
 
+-- the state after the classes of a definition are drawn
 abbrev pub after_definition : ℕ → ℕ → ℕ → ℕ
 after_definition selectors state number = after_draws state (arity_of_number (selector_of selectors number))
 
--- by the body of its number
+-- the lines of a definition: that of its selector at its classes by the body of its number, and those that begin and end its
+-- batch
 abbrev pub definition_line : ℕ → ℕ → ℕ → ℕ → List Line
 definition_line classes selectors state number =
     (if is_first_of_batch number then Begin ∷ [] else [])
     ++ Define (selector_of selectors number) (tuple_of classes selectors state number) number ∷ []
     ++ (if is_last_of_batch selectors number then Commit ∷ [] else [])
 
+-- the batches of the definitions, and the state after them
 abbrev pub definition_lines : ℕ → ℕ → ℕ → List Line
 definition_lines classes selectors state =
     lines_in_turn (definition_line classes selectors) (after_definition selectors) state 0 (definition_count selectors)
@@ -106,22 +114,25 @@ after_definitions selectors state = state_after (after_definition selectors) sta
 
 -- ---- callers: a phase of four, each with 2,500 calls
 
+-- how many callers a phase has, and how many calls each makes
 abbrev pub caller_count : ℕ
 caller_count = 4
 
 abbrev pub call_count : ℕ
 call_count = 2500
 
--- any selector, at any classes
+-- the line of a call: any selector, at any classes
 abbrev pub call_line : ℕ → ℕ → ℕ → ℕ → List Line
 call_line classes selectors state number = Call (record {
   selector = drawn state selectors;
   classes = classes_drawn classes (next_state state) (arity_of_number (drawn state selectors));
 }) ∷ []
 
+-- the state after a call is drawn
 abbrev pub after_call : ℕ → ℕ → ℕ → ℕ
 after_call selectors state number = after_draws (next_state state) (arity_of_number (drawn state selectors))
 
+-- the lines of a caller, and the state after them
 abbrev pub caller_lines : ℕ → ℕ → ℕ → ℕ → List Line
 caller_lines classes selectors state caller =
     Caller caller ∷ lines_in_turn (call_line classes selectors) (after_call selectors) state 0 call_count
@@ -129,6 +140,7 @@ caller_lines classes selectors state caller =
 abbrev pub after_caller : ℕ → ℕ → ℕ → ℕ
 after_caller selectors state caller = state_after (after_call selectors) state 0 call_count
 
+-- the phase of the callers, and the state after it
 abbrev pub calling_lines : ℕ → ℕ → ℕ → List Line
 calling_lines classes selectors state =
     Phase ∷ lines_in_turn (caller_lines classes selectors) (after_caller selectors) state 1 caller_count
@@ -138,6 +150,7 @@ after_callers selectors state = state_after (after_caller selectors) state 1 cal
 
 -- ---- edits: a phase of 200, each a batch of its own, of four kinds in turn
 
+-- how many edits there are
 abbrev pub edit_count : ℕ
 edit_count = 200
 
@@ -162,7 +175,7 @@ define_line tuples selectors definition = Define (selector_of selectors definiti
 abbrev pub class_drawn : ℕ → ℕ → ℕ
 class_drawn classes state = 1 + drawn state (classes - 1)
 
--- an edit, from the first parents of the classes and the classes of the definitions
+-- the line of an edit, from the first parents of the classes and the classes of the definitions
 abbrev pub edit_line : (ℕ → ℕ) → (ℕ → List ℕ) → ℕ → ℕ → ℕ → ℕ → List Line
 edit_line parents tuples classes selectors state edit =
     (if edit % 4 == 0 then undefine_line tuples selectors (drawn state (definition_count selectors))
@@ -170,9 +183,11 @@ edit_line parents tuples classes selectors state edit =
     else if edit % 4 == 2 then Link (class_drawn classes state) (drawn (next_state state) (class_drawn classes state))
     else Unlink (class_drawn classes state) (parents (class_drawn classes state))) ∷ []
 
+-- the state after an edit is drawn
 abbrev pub after_edit : ℕ → ℕ → ℕ
 after_edit state edit = if edit % 4 == 2 then next_state (next_state state) else next_state state
 
+-- the phase of the edits, and the state after it
 abbrev pub edit_lines : (ℕ → ℕ) → (ℕ → List ℕ) → ℕ → ℕ → ℕ → List Line
 edit_lines parents tuples classes selectors state =
     Phase ∷ lines_in_turn (edit_line parents tuples classes selectors) after_edit state 0 edit_count
@@ -189,6 +204,7 @@ program_lines number classes selectors =
     ++ selector_lines selectors
     ++ definition_lines classes selectors (after_classes number classes)
 
+-- the state after the program is drawn
 abbrev pub after_program : ℕ → ℕ → ℕ → ℕ
 after_program number classes selectors = after_definitions selectors (after_classes number classes)
 
@@ -200,6 +216,7 @@ phase_lines parents tuples classes selectors state =
     ++ calling_lines classes selectors (after_edits (after_callers selectors state))
     ++ End ∷ []
 
+-- the lines that a number gives, with so many classes and selectors
 abbrev pub generated_lines : ℕ → ℕ → ℕ → List Line
 generated_lines number classes selectors =
     program_lines number classes selectors

@@ -17,7 +17,8 @@ use dt_definitions::{NoMemory, Tuple};
 use std::alloc::Global;
 
 /// The text of a large script from a number, with so many classes, from 2 to 2,048, and selectors, from 1 to 4,096. The
-/// same numbers give the same text.
+/// same numbers give the same text. It takes memory: the text, and while it is made the first parents of the classes and
+/// the classes of the definitions.
 ///
 /// # Errors
 ///

@@ -1,4 +1,5 @@
-//! Scripts: lines of text, what each means, where each may stand, and the names that they number.
+//! Scripts: lines of text, what each means, where each may stand, and the names that they number; and a large script from
+//! a number.
 #![tactic(auto)]
 
 mod batches_builder;
