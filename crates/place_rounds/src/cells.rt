@@ -28,10 +28,15 @@ fn code(answer: Answer) -> u64 {
     }
 }
 
+/// The code of the answer to a query, 0 where it isn't understood.
+pub fn code_of(program: &Program, query: &Query) -> u64 {
+    code(answer(program, query))
+}
+
 // The word of the cell of a class.
 fn cell_word(program: &Program, selector: u16, class: u16) -> u64 {
     let code = match Query::new(selector, &[class]) {
-        Some(query) => code(answer(program, &query)),
+        Some(query) => code_of(program, &query),
         None => 0,
     };
     if code == 0 {

@@ -1,3 +1,4 @@
+use crate::arities::Arities;
 use crate::small::{CLASS_NUMBERS, SELECTOR_NUMBERS, class, draw_class, draw_selector, selector};
 use arrayvec::ArrayVec;
 use dt_definitions::{Arity, Batch, BodyNo, ClassNo, Edit, Parents, Program, SelNo, Tuple};
@@ -65,10 +66,9 @@ fn draw_unlink(chance: &mut Chance, program: &Program) -> Edit {
     Edit::Unlink { class, parent }
 }
 
-// The selector comes; one in six takes two arguments.
-fn draw_arity(chance: &mut Chance, selector: SelNo) -> Option<Edit> {
-    let number = if chance.below(6) == 0 { 2 } else { 1 };
-    let arity = Arity::new(number)?;
+// The selector comes.
+fn draw_arity(chance: &mut Chance, arities: Arities, selector: SelNo) -> Option<Edit> {
+    let arity = Arity::new(arities.draw(chance))?;
     Some(Edit::AddSelector { selector, arity })
 }
 
@@ -162,25 +162,31 @@ fn push_forget(
 // The selector comes with some definitions.
 fn push_selector(
     chance: &mut Chance,
+    arities: Arities,
     trial: &mut Program,
     batch: &mut Batch,
     selector: SelNo,
 ) -> Result<(), Fault> {
-    if let Some(edit) = draw_arity(chance, selector) {
+    if let Some(edit) = draw_arity(chance, arities, selector) {
         push_edit(chance, trial, batch, edit)?;
     }
     push_defines(chance, trial, batch, selector)
 }
 
 // A selector goes where it is live; it comes, where it wasn't live or, one time in two, where it went.
-fn push_renewed(chance: &mut Chance, trial: &mut Program, batch: &mut Batch) -> Result<(), Fault> {
+fn push_renewed(
+    chance: &mut Chance,
+    arities: Arities,
+    trial: &mut Program,
+    batch: &mut Batch,
+) -> Result<(), Fault> {
     let selector = draw_selector(chance);
     let is_live = trial.arity(selector).is_some();
     if is_live {
         push_forget(chance, trial, batch, selector)?;
     }
     if !is_live || chance.below(2) == 0 {
-        push_selector(chance, trial, batch, selector)?;
+        push_selector(chance, arities, trial, batch, selector)?;
     }
     Ok(())
 }
@@ -237,11 +243,12 @@ fn push_class(
 fn push_drawn(
     alloc: Global,
     chance: &mut Chance,
+    arities: Arities,
     trial: &mut Program,
     batch: &mut Batch,
 ) -> Result<(), Fault> {
     match chance.below(14) {
-        0 | 1 => push_renewed(chance, trial, batch),
+        0 | 1 => push_renewed(chance, arities, trial, batch),
         2 => push_class(alloc, chance, trial, batch),
         _ => match draw_edit(chance, trial) {
             Some(edit) => push_edit(chance, trial, batch, edit),
@@ -267,11 +274,12 @@ fn fill_classes(
 // All selectors come.
 fn fill_selectors(
     chance: &mut Chance,
+    arities: Arities,
     trial: &mut Program,
     batch: &mut Batch,
 ) -> Result<(), Fault> {
     for number in SELECTOR_NUMBERS {
-        push_selector(chance, trial, batch, selector(number))?;
+        push_selector(chance, arities, trial, batch, selector(number))?;
     }
     Ok(())
 }
@@ -280,6 +288,7 @@ fn fill_selectors(
 fn fill(
     alloc: Global,
     chance: &mut Chance,
+    arities: Arities,
     trial: &mut Program,
     batch: &mut Batch,
 ) -> Result<(), Fault> {
@@ -289,7 +298,7 @@ fn fill(
         chance.below(8)
     };
     for _ in 0..=more {
-        push_drawn(alloc, chance, trial, batch)?;
+        push_drawn(alloc, chance, arities, trial, batch)?;
     }
     Ok(())
 }
@@ -298,18 +307,24 @@ fn fill(
 pub fn first_batch(
     alloc: Global,
     chance: &mut Chance,
+    arities: Arities,
     trial: &mut Program,
 ) -> Result<Batch, Fault> {
     let mut batch = Batch::new(alloc);
     fill_classes(alloc, chance, trial, &mut batch)?;
-    fill_selectors(chance, trial, &mut batch)?;
+    fill_selectors(chance, arities, trial, &mut batch)?;
     Ok(batch)
 }
 
 /// A batch by chance, of one edit or several, which are applied to the program where it accepts them. Some batches have an
 /// edit that it refuses.
-pub fn draw_batch(alloc: Global, chance: &mut Chance, trial: &mut Program) -> Result<Batch, Fault> {
+pub fn draw_batch(
+    alloc: Global,
+    chance: &mut Chance,
+    arities: Arities,
+    trial: &mut Program,
+) -> Result<Batch, Fault> {
     let mut batch = Batch::new(alloc);
-    fill(alloc, chance, trial, &mut batch)?;
+    fill(alloc, chance, arities, trial, &mut batch)?;
     Ok(batch)
 }

@@ -8,18 +8,29 @@ pub const ADDRESSES: u32 = 1 << 27;
 /// The cells begin here.
 pub const CELLS_BEGIN: u32 = 1 << 24;
 
-/// The cells of a small program are fewer than these.
+/// The master array begins here.
+pub const MASTER_BEGIN: u32 = 1 << 26;
+
+/// The cells of a small program are fewer than these, in each of both regions.
 pub const CELLS: usize = 32_768;
+
+/// Which blocks of 2,048 cells are looked at, where the cells of all selectors stand one after another: the first.
+pub const FIRST_BLOCKS: [u32; 16] = [0, 1, 2, 3, 4, 5, 6, 7, 8, 9, 10, 11, 12, 13, 14, 15];
+
+// So many cells are a block.
+const BLOCK: usize = 2048;
 
 // The words of classes and selectors and the place words end here.
 const HEADS: usize = 12_288;
 
 /// Which words an image is to have, where those of a small program stand: the words of classes and selectors and the place
-/// words, and the first cells.
+/// words, some blocks of the cells of one receiver, and the first cells of the master array.
 #[derive(Drop)]
 pub struct Image {
+    blocks: [u32; 16],
     heads: Vec<u64>,
     cells: Vec<u64>,
+    master: Vec<u64>,
 }
 
 // So many zeros.
@@ -40,6 +51,21 @@ fn count_wrong(tree: &Tree, first: u32, words: &[u64]) -> u32 {
     wrong
 }
 
+// How many of the words in these blocks of cells the tree has otherwise.
+fn count_wrong_cells(tree: &Tree, blocks: &[u32; 16], words: &[u64]) -> u32 {
+    let mut wrong: u32 = 0;
+    let mut begin: usize = 0;
+    for block in blocks {
+        let end = begin.saturating_add(BLOCK);
+        let first = CELLS_BEGIN.saturating_add(block.saturating_mul(BLOCK as u32));
+        if let Some(part) = words.get(begin..end) {
+            wrong = wrong.saturating_add(count_wrong(tree, first, part));
+        }
+        begin = end;
+    }
+    wrong
+}
+
 /// How many words of the tree are set, at all its addresses.
 pub fn count_words(tree: &Tree) -> u32 {
     let mut count: u32 = 0;
@@ -52,12 +78,15 @@ pub fn count_words(tree: &Tree) -> u32 {
 }
 
 impl Image {
-    /// No word is set.
-    pub fn new(alloc: Global) -> Result<Image, Fault> {
+    /// No word is set, and these blocks of cells are looked at.
+    pub fn new(alloc: Global, blocks: &[u32; 16]) -> Result<Image, Fault> {
         let heads = zeros(alloc, HEADS)?;
+        let cells = zeros(alloc, CELLS)?;
         Ok(Image {
+            blocks: *blocks,
             heads,
-            cells: zeros(alloc, CELLS)?,
+            cells,
+            master: zeros(alloc, CELLS)?,
         })
     }
 
@@ -69,6 +98,9 @@ impl Image {
         for word in &mut self.cells {
             *word = 0;
         }
+        for word in &mut self.master {
+            *word = 0;
+        }
     }
 
     /// The word of a class or a selector, or a place word.
@@ -78,7 +110,14 @@ impl Image {
         }
     }
 
-    /// The word of the cell of this number.
+    /// The word of this cell of the master array.
+    pub fn set_master(&mut self, cell: usize, word: u64) {
+        if let Some(place) = self.master.get_mut(cell) {
+            *place = word;
+        }
+    }
+
+    /// The word of the cell of this number, in the order of the blocks.
     pub fn set_cell(&mut self, cell: usize, word: u64) {
         if let Some(place) = self.cells.get_mut(cell) {
             *place = word;
@@ -87,19 +126,24 @@ impl Image {
 
     /// How many words it has.
     pub fn count(&self) -> u32 {
-        (HEADS + CELLS) as u32
+        (HEADS + CELLS + CELLS) as u32
     }
 
     /// How many of its words the tree has otherwise.
     pub fn count_wrong(&self, tree: &Tree) -> u32 {
         let heads = count_wrong(tree, 0, &self.heads);
-        heads.saturating_add(count_wrong(tree, CELLS_BEGIN, &self.cells))
+        let cells = count_wrong_cells(tree, &self.blocks, &self.cells);
+        let master = count_wrong(tree, MASTER_BEGIN, &self.master);
+        heads.saturating_add(cells).saturating_add(master)
     }
 
     /// How many words are set.
     pub fn count_set(&self) -> u32 {
         let heads = count_set(&self.heads);
-        heads.saturating_add(count_set(&self.cells))
+        let cells = count_set(&self.cells);
+        heads
+            .saturating_add(cells)
+            .saturating_add(count_set(&self.master))
     }
 }
 

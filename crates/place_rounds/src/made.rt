@@ -16,14 +16,29 @@ pub enum Known {
         first: u16,
         second: u16,
     },
+    /// A class comes below another.
+    Under {
+        number: u16,
+        parent: u16,
+    },
     /// A selector of one argument comes.
     Selector {
+        number: u16,
+    },
+    /// A selector of two arguments comes.
+    SelectorOfTwo {
         number: u16,
     },
     /// A definition comes.
     Define {
         selector: u16,
         class: u16,
+        body: u16,
+    },
+    /// A definition of a selector of two arguments comes.
+    DefineAtTwo {
+        selector: u16,
+        classes: [u16; 2],
         body: u16,
     },
 }
@@ -37,9 +52,9 @@ fn class_edit(alloc: Global, number: u16, parents: &[ClassNo]) -> Result<Edit, F
     })
 }
 
-// A selector of one argument that comes.
-fn selector_edit(number: u16) -> Option<Edit> {
-    let arity = Arity::new(1)?;
+// A selector of so many arguments that comes.
+fn selector_edit(number: u16, arity: u8) -> Option<Edit> {
+    let arity = Arity::new(arity)?;
     Some(Edit::AddSelector {
         selector: selector(number),
         arity,
@@ -56,6 +71,17 @@ fn define_edit(number: u16, at: u16, body: u16) -> Option<Edit> {
     })
 }
 
+// A definition of a selector of two arguments that comes.
+fn define_at_two(number: u16, at: [u16; 2], body: u16) -> Option<Edit> {
+    let [first, second] = at;
+    let classes = Tuple::new(&[class(first), class(second)])?;
+    Some(Edit::Define {
+        selector: selector(number),
+        classes,
+        body: BodyNo::new(body),
+    })
+}
+
 // The edit.
 fn edit_of(alloc: Global, known: Known) -> Result<Option<Edit>, Fault> {
     Ok(match known {
@@ -65,12 +91,19 @@ fn edit_of(alloc: Global, known: Known) -> Result<Option<Edit>, Fault> {
             first,
             second,
         } => Some(class_edit(alloc, number, &[class(first), class(second)])?),
-        Known::Selector { number } => selector_edit(number),
+        Known::Under { number, parent } => Some(class_edit(alloc, number, &[class(parent)])?),
+        Known::Selector { number } => selector_edit(number, 1),
+        Known::SelectorOfTwo { number } => selector_edit(number, 2),
         Known::Define {
             selector,
             class,
             body,
         } => define_edit(selector, class, body),
+        Known::DefineAtTwo {
+            selector,
+            classes,
+            body,
+        } => define_at_two(selector, classes, body),
     })
 }
 

@@ -1,23 +1,37 @@
-//! The program `place_rounds`: all words of the tables by selector colouring and by row displacement, after each batch,
-//! beside those of a plain placing, on programs and batches by chance; and the words of two programs that are known.
+//! The program `place_rounds`: all words of the tables by selector colouring, by row displacement and by multiple row
+//! displacement, after each batch, beside those of a plain placing, on programs and batches by chance; and the words of
+//! three programs that are known.
 #![tactic(auto)]
 
+mod arities;
+mod beside;
 mod cells;
 mod drawn;
 mod image;
+mod indexed;
 mod made;
 mod met;
 mod placing;
+mod prefixes;
 mod rounds;
+mod rows;
+mod rows_met;
+mod rules;
 mod search;
 mod small;
+mod understood;
 mod worked;
 
+use dt_cells::Pair;
 use dt_colour::Colour;
+use dt_mrd::Mrd;
 use dt_row::Row;
+use dt_sti::Sti;
 use dt_trials::Fault;
 use met::Met;
 use rounds::play;
+use rows_met::RowsMet;
+use rules::{ALL_ALONG, BESIDE_INDEXED, BESIDE_ROWS, COLOURS, ROWS};
 use std::io;
 use std::process::ExitCode;
 use worked::print_worked;
@@ -35,6 +49,7 @@ fn print_met(rt: &impl Print, name: &str, met: Met) -> io::Result<()> {
         went,
         compared,
         wrong,
+        ..
     } = met;
     println!(rt;
         "{name} | batches committed {committed} | refused {refused} | other arities {arities}"
@@ -46,14 +61,68 @@ fn print_met(rt: &impl Print, name: &str, met: Met) -> io::Result<()> {
     println!(rt; "  words compared {compared} | told wrongly {wrong}")
 }
 
+// Prints what was met of rows in the master array.
+fn print_turns(rt: &impl Print, met: &RowsMet) -> io::Result<()> {
+    let RowsMet {
+        came,
+        again,
+        stayed: [stayed, above],
+        moved: [moved, over_own],
+        went,
+        had,
+        lengths: [none, one, two, three],
+        highest,
+        ..
+    } = *met;
+    println!(rt; "  rows came {came}, again {again} | went {went}")?;
+    println!(rt;
+        "  rows stayed {stayed}, above a lower one {above} | moved {moved}, over own cells {over_own} | passed over one of another {had}"
+    )?;
+    println!(rt;
+        "  rows of no class {none} | one {one} | two {two} | three {three} | highest displacement {highest}"
+    )
+}
+
+// Prints what was met under a kind with rows in the master array.
+fn print_rows_met(rt: &impl Print, name: &str, met: &Met) -> io::Result<()> {
+    let Met {
+        committed,
+        refused,
+        compared,
+        wrong,
+        ..
+    } = *met;
+    let RowsMet {
+        arities,
+        parts: [forth, back],
+        ..
+    } = met.rows;
+    println!(rt;
+        "{name} | batches committed {committed} | refused {refused} | other arities {arities}, from the first part {forth}, back {back}"
+    )?;
+    print_turns(rt, &met.rows)?;
+    println!(rt; "  words compared {compared} | told wrongly {wrong}")
+}
+
+// Plays and prints the kinds with rows in the master array.
+fn run_rows<R: Print + AllocGlobal>(rt: &R) -> Result<(), Fault> {
+    let along = play::<Mrd>(rt.alloc(), &ALL_ALONG)?;
+    print_rows_met(rt, "multiple rows", &along)?;
+    let indexed = play::<Pair<Sti, Mrd>>(rt.alloc(), &BESIDE_INDEXED)?;
+    print_rows_met(rt, "multiple rows beside indexing", &indexed)?;
+    let rows = play::<Pair<Row, Mrd>>(rt.alloc(), &BESIDE_ROWS)?;
+    print_rows_met(rt, "multiple rows beside rows", &rows)?;
+    Ok(())
+}
+
 // Plays and prints all.
 fn run<R: Print + AllocGlobal>(rt: &R) -> Result<(), Fault> {
     print_worked(rt)?;
-    let colours = play::<Colour>(rt.alloc(), 2048)?;
+    let colours = play::<Colour>(rt.alloc(), &COLOURS)?;
     print_met(rt, "colours", colours)?;
-    let rows = play::<Row>(rt.alloc(), 1)?;
+    let rows = play::<Row>(rt.alloc(), &ROWS)?;
     print_met(rt, "rows", rows)?;
-    Ok(())
+    run_rows(rt)
 }
 
 fn main(rt: HostRuntime) -> ExitCode {

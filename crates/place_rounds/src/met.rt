@@ -1,3 +1,5 @@
+use crate::rows_met::RowsMet;
+
 /// What became of a selector that some class answers otherwise than before.
 #[derive(Clone, Copy, Debug, PartialEq, Eq)]
 pub enum Turn {
@@ -38,6 +40,8 @@ pub struct Met {
     pub moved: [u32; 2],
     /// Those that lost theirs.
     pub went: u32,
+    /// What was met of rows in the master array.
+    pub rows: RowsMet,
     /// How many words were compared.
     pub compared: u64,
     /// How many of them were told wrongly.

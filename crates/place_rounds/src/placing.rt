@@ -118,8 +118,8 @@ fn lay_selector(image: &mut Image, width: u32, number: u16, placed: &Placed) {
     }
 }
 
-// Lays the words of the classes.
-fn lay_classes(image: &mut Image, program: &Program) {
+/// Lays the words of the classes.
+pub fn lay_classes(image: &mut Image, program: &Program) {
     for number in CLASS_NUMBERS {
         if program.is_live(class(number)) {
             image.set_head(u32::from(number), 1);
@@ -153,10 +153,8 @@ impl Placing {
         }
     }
 
-    /// Lays all words of the program with this placing, and no other.
-    pub fn lay(&self, program: &Program, image: &mut Image) {
-        image.clear();
-        lay_classes(image, program);
+    /// Lays the words of the selectors.
+    pub fn lay(&self, image: &mut Image) {
         for (placed, number) in self.selectors.iter().zip(SELECTOR_NUMBERS.iter()) {
             lay_selector(image, self.width, *number, placed);
         }

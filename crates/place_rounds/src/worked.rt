@@ -1,12 +1,14 @@
 ghost use Rattle.std.specs.Prelude.{◌≡◌, ◌≤◌};
 
-use crate::image::{ADDRESSES, CELLS, CELLS_BEGIN, count_words};
+use crate::image::{ADDRESSES, CELLS, CELLS_BEGIN, MASTER_BEGIN, count_words};
 use crate::made::{Known, batch_of};
-use dt_cells::TableKind;
+use dt_cells::{Pair, TableKind};
 use dt_colour::Colour;
+use dt_mrd::Mrd;
 use dt_pages::Tree;
 use dt_row::Row;
 use dt_scratch::{Query, Reply};
+use dt_sti::Sti;
 use dt_tables::Tabled;
 use dt_trials::Fault;
 use std::io;
@@ -61,6 +63,31 @@ const AT_THE_SECOND: [Known; 1] = [Known::Define {
     body: 2,
 }];
 
+// Two classes below a third, and a selector of two arguments that is defined at the third and the second of them, and the
+// other way round.
+const COLLIDE: [Known; 6] = [
+    Known::Class { number: 0 },
+    Known::Under {
+        number: 1,
+        parent: 0,
+    },
+    Known::Under {
+        number: 2,
+        parent: 0,
+    },
+    Known::SelectorOfTwo { number: 0 },
+    Known::DefineAtTwo {
+        selector: 0,
+        classes: [0, 2],
+        body: 0,
+    },
+    Known::DefineAtTwo {
+        selector: 0,
+        classes: [2, 0],
+        body: 1,
+    },
+];
+
 // Prints the words that are set of so many addresses from this one on.
 fn print_range(rt: &impl Print, tree: &Tree, first: u32, end: u32) -> io::Result<()> {
     for at in first..end {
@@ -77,7 +104,8 @@ fn print_words(rt: &impl Print, name: &str, tree: &Tree) -> io::Result<()> {
     let count = count_words(tree);
     println!(rt; "{name} | words {count}")?;
     print_range(rt, tree, 0, 12_288)?;
-    print_range(rt, tree, CELLS_BEGIN, CELLS_BEGIN + CELLS as u32)
+    print_range(rt, tree, CELLS_BEGIN, CELLS_BEGIN + CELLS as u32)?;
+    print_range(rt, tree, MASTER_BEGIN, MASTER_BEGIN + CELLS as u32)
 }
 
 // Commits the batch of these edits, and prints the words after it.
@@ -148,8 +176,35 @@ fn print_rows<R: Print + AllocGlobal>(rt: &R) -> Result<(), Fault> {
     )
 }
 
-/// Prints all words of two small programs, before and after a selector moves, and a few replies.
+// Prints the replies to these queries of the first selector and two classes.
+fn print_replies_at_two<K: TableKind>(
+    rt: &impl Print,
+    tabled: &mut Tabled<K>,
+    queries: &[[u16; 2]],
+) -> io::Result<()> {
+    for classes in queries {
+        if let Some(query) = Query::new(0, classes) {
+            let reply: Reply = tabled.reply(&query);
+            println!(rt; "  {query} | {reply}")?;
+        }
+    }
+    Ok(())
+}
+
+// The rows of a selector of two arguments.
+fn print_master<K: TableKind, R: Print + AllocGlobal>(rt: &R, name: &str) -> Result<(), Fault>
+    requires { 1 ≤ K.kind.most_low }
+{
+    let mut tabled = Tabled::<K>::new(rt.alloc())?;
+    show(rt, &mut tabled, name, &COLLIDE)?;
+    print_replies_at_two(rt, &mut tabled, &[[0, 2], [2, 1], [2, 2], [1, 1]])?;
+    Ok(())
+}
+
+/// Prints all words of three small programs, of two of them before and after a selector moves, and a few replies.
 pub fn print_worked<R: Print + AllocGlobal>(rt: &R) -> Result<(), Fault> {
     print_colours(rt)?;
-    print_rows(rt)
+    print_rows(rt)?;
+    print_master::<Mrd, R>(rt, "multiple rows, two arguments")?;
+    print_master::<Pair<Sti, Mrd>, R>(rt, "multiple rows beside indexing, two arguments")
 }
