@@ -36,8 +36,9 @@ mod trial_rounds;
 mod words;
 mod work;
 
-use dt_cells::TableKind;
+use dt_cells::{Pair, TableKind};
 use dt_colour::Colour;
+use dt_mrd::Mrd;
 use dt_row::Row;
 use dt_sti::Sti;
 use dt_trials::Fault;
@@ -121,9 +122,10 @@ fn print_kinds<R: Print + Clock + AllocGlobal>(
     number: u64,
     size: Size,
 ) -> Result<(), Fault> {
-    print_kind::<R, Sti>(rt, "sti", number, size)?;
-    print_kind::<R, Colour>(rt, "colour", number, size)?;
-    print_kind::<R, Row>(rt, "row", number, size)
+    print_kind::<R, Pair<Sti, Mrd>>(rt, "sti", number, size)?;
+    print_kind::<R, Pair<Colour, Mrd>>(rt, "colour", number, size)?;
+    print_kind::<R, Pair<Row, Mrd>>(rt, "row", number, size)?;
+    print_kind::<R, Mrd>(rt, "mrd", number, size)
 }
 
 // Prints the occupancy of the table of this kind.
@@ -141,9 +143,10 @@ fn print_occupied<R: Print + AllocGlobal, K: TableKind>(
 
 // Prints the occupancy of the table of each kind.
 fn print_occupancies<R: Print + AllocGlobal>(rt: &R, number: u64, size: Size) -> Result<(), Fault> {
-    print_occupied::<R, Sti>(rt, "sti", number, size)?;
-    print_occupied::<R, Colour>(rt, "colour", number, size)?;
-    print_occupied::<R, Row>(rt, "row", number, size)
+    print_occupied::<R, Pair<Sti, Mrd>>(rt, "sti", number, size)?;
+    print_occupied::<R, Pair<Colour, Mrd>>(rt, "colour", number, size)?;
+    print_occupied::<R, Pair<Row, Mrd>>(rt, "row", number, size)?;
+    print_occupied::<R, Mrd>(rt, "mrd", number, size)
 }
 
 // Times a generated program, from scratch and with tables.

@@ -98,6 +98,8 @@ pub enum Metric {
     FindHits,
     /// A look-up over a table with one argument, drawn as the generator draws calls.
     FindRandom,
+    /// A look-up over a table with two arguments that a method answers.
+    FindHitsOfTwo,
     /// The changes of an edit are found.
     Changes { kind: EditKind },
     /// A batch of one edit is committed: to the program, and to its table.
@@ -108,12 +110,18 @@ pub enum Metric {
     StepCount { kind: EditKind },
     /// The program and its table are made by its batches.
     LoadTables,
-    /// The cells of a table that have an answer.
+    /// The cells of a table for queries of one class that have an answer.
     CellsUsed,
-    /// The cells of a table up to the last that has an answer.
+    /// The cells of a table for queries of one class up to the last that has an answer.
     CellsSpanned,
-    /// The greatest place of a selector, counted from 1.
+    /// The greatest place of a selector in the part for queries of one class, counted from 1.
     HighestPlace,
+    /// The cells of the master array that are not 0.
+    MasterUsed,
+    /// The cells of the master array up to the last that is not 0.
+    MasterSpanned,
+    /// The greatest place of a selector in the master array, counted from 1.
+    MasterHighest,
     /// What the answers of a round come to, the same in each round.
     Mix,
 }
@@ -147,6 +155,7 @@ impl Metric {
             Metric::Descendants => "descendants",
             Metric::FindHits => "find k1 hits",
             Metric::FindRandom => "find k1 random",
+            Metric::FindHitsOfTwo => "find k2 hits",
             Metric::Changes { .. } => "changes",
             Metric::Commit { .. } => "commit",
             Metric::ChangeCount { .. } => "number of changes",
@@ -155,6 +164,9 @@ impl Metric {
             Metric::CellsUsed => "cells used",
             Metric::CellsSpanned => "cells spanned",
             Metric::HighestPlace => "highest place",
+            Metric::MasterUsed => "master cells used",
+            Metric::MasterSpanned => "master cells spanned",
+            Metric::MasterHighest => "master highest place",
             Metric::Mix => "mix",
         }
     }
@@ -176,11 +188,12 @@ impl Metric {
             Metric::HitsOfOne | Metric::RandomOfOne | Metric::HitsOfTwo | Metric::IsBelow => {
                 Unit::Nanoseconds
             }
-            Metric::FindHits | Metric::FindRandom => Unit::Nanoseconds,
+            Metric::FindHits | Metric::FindRandom | Metric::FindHitsOfTwo => Unit::Nanoseconds,
             Metric::ChangeCount { .. } | Metric::StepCount { .. } => Unit::Each,
             Metric::Load | Metric::LoadTables => Unit::Milliseconds,
             Metric::Memory => Unit::Megabytes,
             Metric::CellsUsed | Metric::CellsSpanned | Metric::HighestPlace => Unit::Number,
+            Metric::MasterUsed | Metric::MasterSpanned | Metric::MasterHighest => Unit::Number,
             Metric::Mix => Unit::Number,
             _ => Unit::Microseconds,
         }

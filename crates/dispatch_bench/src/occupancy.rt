@@ -4,7 +4,7 @@ use crate::draws::Draws;
 use crate::generator::draw_program;
 use crate::size::Size;
 use crate::table_rounds::load_tabled;
-use crate::table_space::{CELLS, Space};
+use crate::table_space::{CELLS, spanned_cells};
 use dt_cells::TableKind;
 use dt_pages::Tree;
 use dt_trials::Fault;
@@ -30,7 +30,7 @@ fn count_block(tree: &Tree, block: u32) -> u32
 
 // Prints a line for each block up to the last cell that has an answer.
 fn print_blocks(rt: &impl Print, name: &str, tree: &Tree) -> Result<(), Fault> {
-    let spanned = Space::of(tree).spanned;
+    let spanned = spanned_cells(tree);
     for block in 0..BLOCKS {
         if BLOCK * block >= spanned {
             return Ok(());

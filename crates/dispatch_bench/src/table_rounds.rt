@@ -7,7 +7,7 @@ use crate::generator::draw_program;
 use crate::metric::Metric;
 use crate::mix::{Mix, code_of};
 use crate::program_rounds::{ROUNDS, operations, time_queries};
-use crate::queries::calls_of_one;
+use crate::queries::{calls_of_one, hits_of_two};
 use crate::single_edits::{SingleEdits, draw_single_edits};
 use crate::size::Size;
 use crate::sized_programs::SizedPrograms;
@@ -29,11 +29,12 @@ struct TableWork {
     hits: Vec<Query>,
     random: Vec<Query>,
     edits: Vec<SingleEdits>,
+    hits_of_two: Vec<Query>,
 }
 
 impl TableWork {
-    // Draws the work for this program, which is left as it is found. The queries are drawn first, so that they are those of
-    // the look-ups from scratch.
+    // Draws the work for this program, which is left as it is found. The queries with one argument are drawn first, so that
+    // they are those of the look-ups from scratch; those with two arguments last, so that the edits stay as they were.
     fn draw(
         alloc: Global,
         draws: &mut Draws,
@@ -45,6 +46,7 @@ impl TableWork {
             hits: calls_of_one(alloc, draws, size, program, true)?,
             random: calls_of_one(alloc, draws, size, program, false)?,
             edits: draw_single_edits(alloc, draws, size, batches, program)?,
+            hits_of_two: hits_of_two(alloc, draws, size, program, batches)?,
         })
     }
 }
@@ -177,6 +179,18 @@ fn time_lookups<K: TableKind>(
     time_finds(rt, table, Metric::FindRandom, tabled, random, mix)
 }
 
+// Times the queries with two arguments of a round, from scratch and over the table in turn.
+fn time_lookups_of_two<K: TableKind>(
+    rt: &impl Clock,
+    table: &mut Table,
+    tabled: &mut Tabled<K>,
+    queries: &Vec<Query>,
+    mix: &mut Mix,
+) -> Result<(), Fault> {
+    time_queries(rt, table, Metric::HitsOfTwo, tabled.program(), queries, mix)?;
+    time_finds(rt, table, Metric::FindHitsOfTwo, tabled, queries, mix)
+}
+
 // Times the look-ups and the edits of a round.
 fn time_work<K: TableKind>(
     rt: &impl Clock,
@@ -187,6 +201,7 @@ fn time_work<K: TableKind>(
     mix: &mut Mix,
 ) -> Result<(), Fault> {
     time_lookups(rt, table, tabled, work, mix)?;
+    time_lookups_of_two(rt, table, tabled, &work.hits_of_two, mix)?;
     for edits in &work.edits {
         time_differences(rt, table, programs, edits, mix)?;
         time_edits(rt, table, tabled, edits, mix)?;
@@ -235,7 +250,7 @@ fn time_tabled<R: Clock + AllocGlobal, K: TableKind>(
 ) -> Result<(), Fault>
     requires { 1 ≤ K.kind.most_low }
 {
-    Space::of(tabled.tree()).put(table)?;
+    Space::of(tabled.program(), tabled.tree()).put(table)?;
     let mut programs = load_sized(rt.alloc(), batches)?;
     time_rounds(rt, table, batches, tabled, &mut programs, work)
 }

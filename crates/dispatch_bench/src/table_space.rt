@@ -1,69 +1,126 @@
-ghost use Rattle.std.specs.Prelude.{◌<◌};
+ghost use Rattle.std.specs.Prelude.{◌<◌, ◌≤◌, ◌+◌};
 
 use crate::metric::Metric;
 use crate::table::Table;
 use dt_cells::place_address;
-use dt_definitions::NoMemory;
+use dt_definitions::{NoMemory, Program};
 use dt_pages::Tree;
-use dt_selectors::SELECTORS;
+use dt_selectors::{SELECTORS, SelNo};
 
 /// The cells of queries of one class begin here.
 pub const CELLS: u32 = 1 << 24;
 
-// So many addresses are those of cells, whatever the kind.
+// So many addresses are those of cells of queries of one class, whatever the kind.
 const CELL_NUMBERS: u32 = 1 << 24;
 
-/// The room that a table takes.
+// The master array begins here, and so many addresses are those of its cells.
+const MASTER: u32 = 1 << 26;
+
+/// The room that a table takes: its part for queries of one class, and the master array.
 #[derive(Clone, Copy, Debug)]
 pub struct Space {
-    // How many cells have an answer.
+    // The cells of queries of one class.
+    single: Cells,
+    // The cells of the master array.
+    master: Cells,
+    // The greatest place of a selector in the part for queries of one class, counted from 1; 0 where none has a place there.
+    highest_single: u64,
+    // The same of the master array.
+    highest_master: u64,
+}
+
+// How many cells a region has.
+#[derive(Clone, Copy, Debug)]
+struct Cells {
+    // How many cells are not 0.
     used: u32,
-    /// How many cells there are from the first address of cells to the last cell that has an answer.
-    pub spanned: u32,
-    // The greatest place of a selector, counted from 1; 0 where no selector has a place.
-    highest_place: u64,
+    // How many cells there are from the first address of the region to the last cell that is not 0.
+    spanned: u32,
 }
 
-// The greatest place word.
-fn highest_place(tree: &Tree) -> u64 {
-    let mut highest: u64 = 0;
-    for selector in 0..SELECTORS {
-        highest = highest.max(tree.word(place_address(selector)));
+impl Cells {
+    // Counts the cells of so many addresses from the first on.
+    fn count(tree: &Tree, first: u32, addresses: u32) -> Cells
+        requires { first + addresses ≤ 134217728 }
+    {
+        let mut used: u32 = 0;
+        let mut spanned: u32 = 0;
+        for number in 0..addresses {
+            if tree.word(first + number) != 0 {
+                used = used.saturating_add(1);
+                spanned = number + 1;
+            }
+        }
+        Cells { used, spanned }
     }
-    highest
 }
 
-// How many cells have an answer, and how many there are up to the last of these.
-fn count_cells(tree: &Tree) -> (u32, u32) {
-    let mut used: u32 = 0;
-    let mut spanned: u32 = 0;
-    for number in 0..CELL_NUMBERS {
-        if tree.word(CELLS + number) != 0 {
-            used = used.saturating_add(1);
-            spanned = number + 1;
+// Whether the selector takes one argument.
+fn takes_one(program: &Program, selector: u16) -> bool {
+    match SelNo::new(selector) {
+        Some(selector) => match program.arity(selector) {
+            Some(arity) => arity.number() == 1,
+            None => false,
+        },
+        None => false,
+    }
+}
+
+// The greatest place word of the selectors that take one argument, and that of the others.
+fn highest_places(program: &Program, tree: &Tree) -> (u64, u64) {
+    let mut one: u64 = 0;
+    let mut more: u64 = 0;
+    for selector in 0..SELECTORS {
+        let place = tree.word(place_address(selector));
+        if takes_one(program, selector) {
+            one = one.max(place);
+        } else {
+            more = more.max(place);
         }
     }
-    (used, spanned)
+    (one, more)
+}
+
+// Puts the greatest place under this metric. What has no places has no line.
+fn put_highest(table: &mut Table, metric: Metric, place: u64) -> Result<(), NoMemory> {
+    if place == 0 {
+        return Ok(());
+    }
+    table.put(metric, place)
+}
+
+/// How many cells of queries of one class there are up to the last that is not 0.
+pub fn spanned_cells(tree: &Tree) -> u32 {
+    Cells::count(tree, CELLS, CELL_NUMBERS).spanned
 }
 
 impl Space {
-    /// The room that the words of this tree take.
-    pub fn of(tree: &Tree) -> Space {
-        let (used, spanned) = count_cells(tree);
+    /// The room that the words of this tree take, which is that of the table of this program.
+    pub fn of(program: &Program, tree: &Tree) -> Space {
+        let single = Cells::count(tree, CELLS, CELL_NUMBERS);
+        let master = Cells::count(tree, MASTER, MASTER);
+        let (one, more) = highest_places(program, tree);
+        // Where no cell is one of queries of one class, every place is one of the master array.
+        let (highest_single, highest_master) = if single.used == 0 {
+            (0, one.max(more))
+        } else {
+            (one, more)
+        };
         Space {
-            used,
-            spanned,
-            highest_place: highest_place(tree),
+            single,
+            master,
+            highest_single,
+            highest_master,
         }
     }
 
-    /// Puts the numbers into the table. A kind without places has no line for the highest.
+    /// Puts the numbers into the table. A part without places has no line for the highest.
     pub fn put(self, table: &mut Table) -> Result<(), NoMemory> {
-        table.put(Metric::CellsUsed, u64::from(self.used))?;
-        table.put(Metric::CellsSpanned, u64::from(self.spanned))?;
-        if self.highest_place == 0 {
-            return Ok(());
-        }
-        table.put(Metric::HighestPlace, self.highest_place)
+        table.put(Metric::CellsUsed, u64::from(self.single.used))?;
+        table.put(Metric::CellsSpanned, u64::from(self.single.spanned))?;
+        put_highest(table, Metric::HighestPlace, self.highest_single)?;
+        table.put(Metric::MasterUsed, u64::from(self.master.used))?;
+        table.put(Metric::MasterSpanned, u64::from(self.master.spanned))?;
+        put_highest(table, Metric::MasterHighest, self.highest_master)
     }
 }
