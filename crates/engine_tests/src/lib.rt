@@ -35,3 +35,5 @@ mod traits;
 mod trials;
 #[cfg(test)]
 mod turnstile;
+#[cfg(test)]
+mod written_lines;
