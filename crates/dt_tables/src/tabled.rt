@@ -91,7 +91,8 @@ impl<K: TableKind> Tabled<K> {
     /// program is within the limits of cells and rows. After every fault the old program stands on, and its table.
     ///
     /// It costs what the batch costs on one program, with the batch that was committed before it, and the finding of what
-    /// it changes; and setting the words of these changes. No word of a query that doesn't change is set.
+    /// it changes; and setting the words of these changes. Under selector table indexing no other word of a cell is set;
+    /// under a kind with places a selector or row that moves has all its cells set anew.
     pub fn commit(&mut self, batch: &Batch) -> Result<(), CommitFault>
         ensures { Commits self.old batch.now self.new result }
     {
