@@ -35,7 +35,7 @@ counted_few p (x ∷ xs) = omega (arith, sum_by-cons (λ y. one_if (p y)) x xs, 
 pub told_few : (what : Told) (log : Log) → IsCountable log → count_told what log < 2 ^ 64
 told_few what log (edits, calls) =
     let few = sum_by-le-sum_by (told_in what) (λ phase. sum_by (λ part. length part.lines) phase.callers) log.phases
-      (λ phase. sum_by-le-sum_by (told_by what) (λ part. length part.lines) phase.callers (λ part. counted_few (is_told what) part.lines)) in
+    (λ phase. sum_by-le-sum_by (told_by what) (λ part. length part.lines) phase.callers (λ part. counted_few (is_told what) part.lines)) in
     omega (arith, few, calls)
 
 pub batches_few : (accepted : Bool) (log : Log) → IsCountable log → count_batches accepted log < 2 ^ 64

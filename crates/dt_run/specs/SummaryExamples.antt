@@ -34,23 +34,28 @@ callers_in_order : mix_of (calls_of (record { caller = 2; lines = called (Answer
 callers_in_order = refl
 
 -- the mix of calls stays below 2^32
-mixed_around : mix_of (calls_of (record { caller = 1; lines = called (Answered (Method 65535)) ∷ called (Answered (Method 65535)) ∷ called (Answered (Method 65535))
-    ∷ called (Answered (Method 65535)) ∷ [] } ∷ [])) ≡ 2017491008
+mixed_around : mix_of (calls_of (record {
+  caller = 1;
+  lines = called (Answered (Method 65535)) ∷ called (Answered (Method 65535)) ∷ called (Answered (Method 65535))
+      ∷ called (Answered (Method 65535)) ∷ [];
+} ∷ [])) ≡ 2017491008
 mixed_around = refl
 
 -- every ending of a batch and of a call is counted once, over all phases and callers
 each_counted : summary_of (record { classes = codes "A" ∷ codes "B" ∷ codes "C" ∷ []; selectors = codes "f" ∷ codes "g" ∷ []; bodies = codes "b" ∷ [] }) (record {
-      phases = record {
-          from = 0; to = 2;
-          edits = Accepted 1 ∷ Refused 1 Cycle ∷ Accepted 2 ∷ VersionsFull ∷ CellsFull ∷ RowsFull ∷ NoPages 7 3 ∷ [];
-          callers = record { caller = 1; lines = called NoSelector ∷ called WrongArity ∷ PinWorn 5 ∷ [] } ∷ record { caller = 2; lines = called (NoClass 1) ∷ CallWorn 5 ∷ [] } ∷ [];
-        } ∷ record {
-          from = 2; to = 3;
-          edits = Accepted 3 ∷ [];
-          callers = record { caller = 2; lines = PinnedAt 2 ∷ called (Answered (Method 0)) ∷ called (Answered (Method 0)) ∷ called (Answered Ambiguous) ∷ Unpinned ∷ called (Answered NotUnderstood) ∷ [] } ∷ [];
-        } ∷ [];
-      last = 3;
-    })
+  phases = record {
+    from = 0;
+    to = 2;
+    edits = Accepted 1 ∷ Refused 1 Cycle ∷ Accepted 2 ∷ VersionsFull ∷ CellsFull ∷ RowsFull ∷ NoPages 7 3 ∷ [];
+    callers = record { caller = 1; lines = called NoSelector ∷ called WrongArity ∷ PinWorn 5 ∷ [] } ∷ record { caller = 2; lines = called (NoClass 1) ∷ CallWorn 5 ∷ [] } ∷ [];
+  } ∷ record {
+    from = 2;
+    to = 3;
+    edits = Accepted 3 ∷ [];
+    callers = record { caller = 2; lines = PinnedAt 2 ∷ called (Answered (Method 0)) ∷ called (Answered (Method 0)) ∷ called (Answered Ambiguous) ∷ Unpinned ∷ called (Answered NotUnderstood) ∷ [] } ∷ [];
+  } ∷ [];
+  last = 3;
+})
     ≡ codes "classes 3\nselectors 2\naccepted 3\nrefused 5\nmethod 2\nambiguous 1\nnot-understood 1\nother 4\nmix 61535\ndone 3\n"
 unfolding digits
 each_counted = refl

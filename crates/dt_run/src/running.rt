@@ -171,9 +171,15 @@ fn run_by<S: Source, K: Sink, T: Turnstile>(
     ensures sink_counts { K.faults sink.old ≤ K.faults sink.new }
 {
     match table {
-        Table::Sti => run_source::<Pair<Sti, Mrd>, S, K, T>(alloc, source, sink, readers, turnstile),
-        Table::Colour => run_source::<Pair<Colour, Mrd>, S, K, T>(alloc, source, sink, readers, turnstile),
-        Table::Row => run_source::<Pair<Row, Mrd>, S, K, T>(alloc, source, sink, readers, turnstile),
+        Table::Sti => run_source::<Pair<Sti, Mrd>, S, K, T>(
+            alloc, source, sink, readers, turnstile,
+        ),
+        Table::Colour => run_source::<Pair<Colour, Mrd>, S, K, T>(
+            alloc, source, sink, readers, turnstile,
+        ),
+        Table::Row => run_source::<Pair<Row, Mrd>, S, K, T>(
+            alloc, source, sink, readers, turnstile,
+        ),
         Table::Mrd => run_source::<Mrd, S, K, T>(alloc, source, sink, readers, turnstile),
     }
 }

@@ -13,7 +13,11 @@ use dt_scratch::{Answer, Reply};
 fn add_if(count: u64, holds: bool) -> u64
     ensures { result ≡ min (count + one_if holds) greatest }
 {
-    if holds { count.saturating_add(1) } else { count }
+    if holds {
+        count.saturating_add(1)
+    } else {
+        count
+    }
 }
 
 // Whether the answer is told as this.
