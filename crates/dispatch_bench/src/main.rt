@@ -116,12 +116,24 @@ fn print_kind<R: Print + Clock + AllocGlobal, K: TableKind>(
     print_tables::<R, K>(rt, name.as_str(), number, size)
 }
 
+// Times a generated program with tables of each kind for queries of one class, alone: the others are looked up from scratch.
+fn print_single_kinds<R: Print + Clock + AllocGlobal>(
+    rt: &R,
+    number: u64,
+    size: Size,
+) -> Result<(), Fault> {
+    print_kind::<R, Sti>(rt, "sti-alone", number, size)?;
+    print_kind::<R, Colour>(rt, "colour-alone", number, size)?;
+    print_kind::<R, Row>(rt, "row-alone", number, size)
+}
+
 // Times a generated program with tables of each kind.
 fn print_kinds<R: Print + Clock + AllocGlobal>(
     rt: &R,
     number: u64,
     size: Size,
 ) -> Result<(), Fault> {
+    print_single_kinds(rt, number, size)?;
     print_kind::<R, Pair<Sti, Mrd>>(rt, "sti", number, size)?;
     print_kind::<R, Pair<Colour, Mrd>>(rt, "colour", number, size)?;
     print_kind::<R, Pair<Row, Mrd>>(rt, "row", number, size)?;
