@@ -3,7 +3,6 @@ use Rattle.std.specs.Prelude.{◌≡◌, [], ◌∷◌, codes, Some, None, refl}
 use Rattle.dt_words.specs.Number.{number_of}
 use Rattle.dt_words.specs.Limits.{limits_unless_given}
 use Rattle.dt_words.specs.CommandOf.{command_of}
-use Rattle.dt_words.specs.Performed.{performed_of}
 use Rattle.dt_words.specs.declared.command.Table.TheVariants.{Sti, Mrd}
 use Rattle.dt_words.specs.declared.command.Command.TheVariants.{Run, Gen}
 
@@ -90,11 +89,11 @@ an_option_of_the_other_command = refl
 help : command_of (codes "run" ∷ codes "--help" ∷ []) ≡ None
 help = refl
 
--- ---- performed
+-- ---- whole commands
 
-the_shortest_is_performed : performed_of (codes "run" ∷ codes "--table" ∷ codes "sti" ∷ []) ≡ Some (Run Sti limits_unless_given)
-the_shortest_is_performed = refl
+the_shortest_run : command_of (codes "run" ∷ codes "--table" ∷ codes "sti" ∷ []) ≡ Some (Run Sti limits_unless_given)
+the_shortest_run = refl
 
-a_generated_script_is_not :
-    performed_of (codes "gen" ∷ codes "--table" ∷ codes "sti" ∷ codes "--number=0" ∷ codes "--classes=2" ∷ codes "--selectors=1" ∷ []) ≡ None
-a_generated_script_is_not = refl
+the_smallest_generated_script :
+    command_of (codes "gen" ∷ codes "--table" ∷ codes "sti" ∷ codes "--number=0" ∷ codes "--classes=2" ∷ codes "--selectors=1" ∷ []) ≡ Some (Gen Sti 0 2 1)
+the_smallest_generated_script = refl

@@ -1,5 +1,5 @@
 -- The command that the words write.
-use Rattle.std.specs.Prelude.{ℕ, if◌then◌else◌, List, [], ◌∷◌, codes, Option, Some, None, option_map, option_and_then}
+use Rattle.std.specs.Prelude.{ℕ, ◌≤◌, if◌then◌else◌, List, [], ◌∷◌, codes, Option, Some, None, option_map, option_and_then}
 use Rattle.std.specs.Str.{bytes_eq}
 use Rattle.dt_words.specs.Number.{number_in}
 use Rattle.dt_words.specs.Options.{Given, options_of, value_of}
@@ -75,3 +75,9 @@ command_of [] = None
 command_of (first ∷ rest) =
     if bytes_eq first (codes "run") then option_and_then run_of (options_of run_names rest)
     else (if bytes_eq first (codes "gen") then option_and_then gen_of (options_of gen_names rest) else None)
+
+-- a script is generated with a number of classes and of selectors that there may be
+abbrev pub IsSized : Command → Type 0
+IsSized (Run table limits) = Unit {0}
+IsSized (Gen table number classes selectors) = ((LEAST_GENERATED_CLASSES ≤ classes) × (classes ≤ GENERATED_CLASSES))
+    × ((1 ≤ selectors) × (selectors ≤ GENERATED_SELECTORS))

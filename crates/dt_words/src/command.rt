@@ -1,6 +1,3 @@
-ghost use Rattle.std.specs.Prelude.{◌≡◌};
-ghost use Rattle.dt_words.specs.Performed.{is_performed};
-
 use crate::limits::Limits;
 
 /// The least number of classes of a generated script.
@@ -46,16 +43,4 @@ pub enum Command {
         /// How many selectors the script has, from 1 to [`GENERATED_SELECTORS`].
         selectors: u16,
     },
-}
-
-impl Command {
-    /// Whether the program performs the command: `gen` waits for a generator of scripts.
-    pub fn is_performed(&self) -> bool
-        ensures { result ≡ is_performed self.now }
-    {
-        match self {
-            Command::Run { .. } => true,
-            Command::Gen { .. } => false,
-        }
-    }
 }

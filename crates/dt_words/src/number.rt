@@ -31,7 +31,8 @@ fn is_number(bytes: &[u8]) -> bool
 
 // The number that the text writes, if it writes one from `least` to `most`.
 pub(crate) fn number_in(text: &str, least: u64, most: u64) -> Option<u64>
-    ensures { result ≡ number_in least most text.now }
+    ensures value { result ≡ number_in least most text.now }
+    ensures in_range { IfSome result (λ number. (least ≤ number) × (number ≤ most)) }
 {
     if !is_number(text.as_bytes()) {
         return None;

@@ -1,6 +1,6 @@
 ghost use Rattle.std.specs.Prelude.{◌≡◌, ◌≤◌, ℕ, List, Some, None, IfOk, IfErr, MatchResult, codes, drop, option_and_then, option_map, false, IfSome};
 ghost use Rattle.std.specs.List.{list_any};
-ghost use Rattle.dt_words.specs.CommandOf.{command_of, gen_names, gen_of, given_number, limits_of, number_or, run_names, run_of, table_of};
+ghost use Rattle.dt_words.specs.CommandOf.{command_of, gen_names, gen_of, given_number, limits_of, number_or, run_names, run_of, table_of, IsSized};
 ghost use Rattle.dt_words.specs.Options.{Given, options_of, value_of};
 ghost use Rattle.dt_words.specs.Parsed.{HasGiven, is_stray};
 ghost use Rattle.dt_words.specs.declared.words_fault.WordsFault.TheVariants.{Usage};
@@ -93,7 +93,8 @@ fn given_table(matches: &ArgMatches<'_>) -> Option<Table>
 
 // The command `run` with these options.
 fn run_of(matches: &ArgMatches<'_>) -> Option<Command>
-    ensures { (given : List Given) → HasGiven matches.now given → result ≡ run_of given }
+    ensures value { (given : List Given) → HasGiven matches.now given → result ≡ run_of given }
+    ensures sized { IfSome result IsSized }
 {
     let table = given_table(matches)?;
     let limits = limits_of(matches)?;
@@ -102,7 +103,8 @@ fn run_of(matches: &ArgMatches<'_>) -> Option<Command>
 
 // The command `gen` with these options.
 fn gen_of(matches: &ArgMatches<'_>) -> Option<Command>
-    ensures { (given : List Given) → HasGiven matches.now given → result ≡ gen_of given }
+    ensures value { (given : List Given) → HasGiven matches.now given → result ≡ gen_of given }
+    ensures sized { IfSome result IsSized }
 {
     let table = given_table(matches)?;
     let number = given_number(matches.get_str("number"), 0, u32::MAX as u64)?;
@@ -123,7 +125,8 @@ fn gen_of(matches: &ArgMatches<'_>) -> Option<Command>
 // The command `run` with the options of the words after the first.
 fn read_run(alloc: Global, words: &ArgWords) -> Result<Command, WordsFault>
     requires { list_any is_stray (drop 1 words.now) ≡ false }
-    ensures { MatchResult result
+    ensures sized { IfOk result IsSized }
+    ensures command { MatchResult result
         (λ command. option_and_then run_of (options_of run_names (drop 1 words.now)) ≡ Some command)
         (λ fault. fault ≡ Usage → option_and_then run_of (options_of run_names (drop 1 words.now)) ≡ None) }
 {
@@ -138,7 +141,8 @@ fn read_run(alloc: Global, words: &ArgWords) -> Result<Command, WordsFault>
 // The command `gen` with the options of the words after the first.
 fn read_gen(alloc: Global, words: &ArgWords) -> Result<Command, WordsFault>
     requires { list_any is_stray (drop 1 words.now) ≡ false }
-    ensures { MatchResult result
+    ensures sized { IfOk result IsSized }
+    ensures command { MatchResult result
         (λ command. option_and_then gen_of (options_of gen_names (drop 1 words.now)) ≡ Some command)
         (λ fault. fault ≡ Usage → option_and_then gen_of (options_of gen_names (drop 1 words.now)) ≡ None) }
 {
@@ -162,6 +166,7 @@ fn read_gen(alloc: Global, words: &ArgWords) -> Result<Command, WordsFault>
 /// Linear in the bytes of the words; memory for a parser of four options and what they were given, which is given back.
 pub fn read_words(alloc: Global, words: &ArgWords) -> Result<Command, WordsFault>
     ensures command { IfOk result (λ command. command_of words.now ≡ Some command) }
+    ensures sized { IfOk result IsSized }
     ensures usage { IfErr result (λ fault. fault ≡ Usage → command_of words.now ≡ None) }
 {
     if has_stray(words) {
