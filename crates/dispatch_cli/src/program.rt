@@ -5,7 +5,8 @@ ghost use Rattle.dt_outside.specs.Faults.{Rose};
 ghost use Rattle.dt_outside.specs.Losing.{LosesAtMost};
 ghost use Rattle.dt_script.specs.declared.limits.TheConstants.{SCRIPT_BYTES};
 ghost use Rattle.dt_run.specs.Run.{IsScript, IsNoScript};
-ghost use Rattle.dt_run.specs.Ending.{outside, readers_of, EndsAs};
+ghost use Rattle.dt_run.specs.Ending.{outside, readers_of, IsGeneration, EndsAs};
+ghost use Rattle.dt_words.specs.CommandOf.{command_of};
 ghost use Rattle.dispatch_cli.specs.Arguments.{words_in};
 
 use crate::command_line::words_of;
@@ -37,8 +38,9 @@ pub fn exit_status<H: Threads + Sync, S: Source, K: Sink>(
     ensures no_memory_for_words { IfErr args (λ error. error_kind error ≡ ErrorKind.OutOfMemory
         → (result ≡ 6) × (source.new ≡ source.old) × (sink.new ≡ sink.old)) }
 
-    // The words decide whether there is a run, unless memory is wanted; where there is none, nothing is read.
-    ensures usage { readers_of (words_in (λ all. drop 1 (map string_bytes (into_iter_items all))) args) ≡ None
+    // The words decide whether there is a command, unless memory is wanted; where they ask for no script of the source's,
+    // nothing is read.
+    ensures usage { command_of (words_in (λ all. drop 1 (map string_bytes (into_iter_items all))) args) ≡ None
         → (result ≡ 2) ⊎ (result ≡ 6) }
     ensures unread { readers_of (words_in (λ all. drop 1 (map string_bytes (into_iter_items all))) args) ≡ None
         → source.new ≡ source.old }
@@ -54,6 +56,10 @@ pub fn exit_status<H: Threads + Sync, S: Source, K: Sink>(
         → (Rose (S.faults source.old) (S.faults source.new) → ⊥)
         → (Rose (K.faults sink.old) (K.faults sink.new) → ⊥)
         → IfSome (S.left source.old) (λ bytes. IsScript readers bytes → (result ≡ 0) ⊎ (result ≡ 6)) }
+
+    // A generated script is always performed, unless the sink fails or memory is wanted.
+    ensures generated { IsGeneration (command_of (words_in (λ all. drop 1 (map string_bytes (into_iter_items all))) args))
+        → (Rose (K.faults sink.old) (K.faults sink.new) → ⊥) → (result ≡ 0) ⊎ (result ≡ 6) }
 
     // What is read, and the counts.
     ensures reads_at_most { LosesAtMost (SCRIPT_BYTES + 1) (S.left source.old) (S.left source.new) }

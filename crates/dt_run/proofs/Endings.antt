@@ -1,6 +1,6 @@
 -- What follows of how a run ends.
 use Rattle.std.proofs.Common.{◌≡◌, ◌≤◌, ℕ, ◌+◌, List, [], length, Option, Some, None, Err, ◌⊎◌, inl, inr, refl, sym, ap, subst, ◌∙◌, arith, length-append}
-use Rattle.std.specs.Prelude.{IfSome, if◌then◌else◌, option_and_then}
+use Rattle.std.specs.Prelude.{IfSome, option_and_then}
 use Rattle.dt_outside.specs.Faults.{Rose, one_fault_more}
 use Rattle.dt_outside.specs.Losing.{Loses, LosesAtMost}
 use Rattle.dt_outside.proofs.OverCalls.{one_fault_more_is_rise}
@@ -14,11 +14,10 @@ use Rattle.dt_script.specs.declared.script_fault.ScriptFault.TheVariants as faul
 use Rattle.dt_words.specs.declared.limits.TheConstants.{VERSIONS}
 use Rattle.dt_words.specs.CommandOf.{command_of}
 use Rattle.dt_words.specs.Limits.{LimitNumbers}
-use Rattle.dt_words.specs.Performed.{is_performed}
 use Rattle.dt_words.specs.declared.command.Command.{Command}
 use Rattle.dt_words.specs.declared.command.Command.TheVariants.{Run}
 use Rattle.dt_words.specs.declared.command.Table.{Table}
-use Rattle.dt_run.specs.Ending.{Outside, outside, readers_in, readers_of, status_of, EndsWith, Ending, RunEnding, Performed}
+use Rattle.dt_run.specs.Ending.{Outside, outside, readers_in, readers_of, status_of, EndsWith, Ending, Performed}
 use Rattle.dt_run.specs.FaultText.{fault_text}
 use Rattle.dt_run.specs.Log.{Log}
 use Rattle.dt_run.specs.Outcome.{Outcome}
@@ -67,23 +66,14 @@ ends_fault readers (fault.Malformed line) handed old new counted is ends = (coun
 ends_fault readers (fault.NamesFull line) handed old new counted is ends = (counted, (fault.NamesFull line, refl, is, ends))
 ends_fault readers fault.NoEnd handed old new counted is ends = (counted, (fault.NoEnd, refl, is, ends))
 
--- ---- how a run ends
-
-pub run_ends : (words : List (List ℕ)) (readers : ℕ) (status : Status) (handed : Option Log) (old new : Outside) → readers_of words ≡ Some readers
-    → Ending readers status handed old new → RunEnding words status handed old new
-run_ends words readers Done handed old new asked ends = (readers, asked, ends)
-run_ends words readers Usage handed old new asked ends = absurd ends
-run_ends words readers Script handed old new asked ends = (readers, asked, ends)
-run_ends words readers ReadFault handed old new asked ends = (readers, asked, ends)
-run_ends words readers WriteFault handed old new asked ends = (readers, asked, ends)
-run_ends words readers NoMemory handed old new asked ends = ends
+-- ---- how a run of the source's script ends
 
 -- a count with a fault more rose
 rose_by_one : (old new : ℕ) → new ≡ one_fault_more old → Rose old new
 rose_by_one old new more = subst (λ n. Rose old n) (sym more) (one_fault_more_is_rise old)
 
 -- where the bytes are told, they are what was read
-read_told : (left rest : Option (List ℕ)) (bytes read : List ℕ) → left ≡ Some bytes → WasRead left rest read → read ≡ bytes
+pub read_told : (left rest : Option (List ℕ)) (bytes read : List ℕ) → left ≡ Some bytes → WasRead left rest read → read ≡ bytes
 read_told left rest bytes read told was = rw told at was.whole
 
 module _ (scripts_have_no_fault : ScriptsHaveNoFault) where
@@ -174,22 +164,15 @@ module _ (scripts_have_no_fault : ScriptsHaveNoFault) where
 -- ---- for how many readers the words ask
 
 -- words that write the command to run ask for its readers
-pub words_ask : (words : List (List ℕ)) (command : Command) (table : Table) (limits : LimitNumbers) (readers : ℕ) → command_of words ≡ Some command
-    → command ≡ Run table limits → readers ≡ limits.reader_count → readers_of words ≡ Some readers
-words_ask words command table limits readers written is given =
-    ap (λ c. option_and_then readers_in (option_and_then (λ one. if is_performed one then Some one else None) c)) (written ∙ ap Some is) ∙ ap Some (sym given)
+pub words_ask : (words : List (List ℕ)) (table : Table) (limits : LimitNumbers) (readers : ℕ) → command_of words ≡ Some (Run table limits)
+    → readers ≡ limits.reader_count → readers_of words ≡ Some readers
+words_ask words table limits readers asked given = ap (option_and_then readers_in) asked ∙ ap Some (sym given)
 
 -- and for no others
 pub words_ask_once : (words : List (List ℕ)) (a b : ℕ) → readers_of words ≡ Some a → readers_of words ≡ Some b → a ≡ b
 words_ask_once words a b first second = inside (sym first ∙ second) where
   inside : Some a ≡ Some b → a ≡ b
   inside same = cc
-
--- words that ask for a run don't ask for none
-pub asks_or_not : {P : Type 0} (words : List (List ℕ)) (readers : ℕ) → readers_of words ≡ Some readers → readers_of words ≡ None → P
-asks_or_not words readers asked none = absurd (inside (sym asked ∙ none)) where
-  inside : Some readers ≡ None → ⊥
-  inside same = absurd cc
 
 -- a source that wasn't read lost nothing
 pub loses_none : (limit : ℕ) (left : Option (List ℕ)) → LosesAtMost limit left left

@@ -12,3 +12,4 @@ pub mod KnownNumbers
 pub mod NamedOutcome
 pub mod Endings
 pub mod Tallying
+pub mod Countable

@@ -3,28 +3,30 @@ use Rattle.std.specs.Prelude.{◌≡◌, ℕ, List, Option, None, Some, ◌⊎�
 use Rattle.dt_outside.specs.Faults.{one_fault_more}
 use Rattle.dt_outside.specs.Losing.{LosesAtMost}
 use Rattle.dt_outside.specs.Putting.{Told}
+use Rattle.dt_script.specs.GeneratedLaws.{generated_script}
 use Rattle.dt_script.specs.ReadScript.{WasRead, IsFaultOfSource}
+use Rattle.dt_script.specs.Script as shown
 use Rattle.dt_script.specs.declared.limits.TheConstants.{SCRIPT_BYTES}
 use Rattle.dt_script.specs.declared.script_fault.ScriptFault.{ScriptFault}
 use Rattle.dt_script.specs.declared.script_fault.ScriptFault.TheVariants as fault
-use Rattle.dt_words.specs.Performed.{performed_of}
+use Rattle.dt_words.specs.CommandOf.{command_of}
 use Rattle.dt_words.specs.declared.command.Command.{Command}
 use Rattle.dt_words.specs.declared.command.Command.TheVariants.{Run, Gen}
 use Rattle.dt_run.specs.FaultText.{usage_text, fault_text}
 use Rattle.dt_run.specs.Log.{Log}
-use Rattle.dt_run.specs.Run.{IsDone, IsCutShort}
+use Rattle.dt_run.specs.Run.{IsDone, IsCutShort, IsSummed, IsSummedInPart}
 use Rattle.dt_run.specs.Status.{number_of}
 use Rattle.dt_run.specs.declared.status.Status.{Status}
 use Rattle.dt_run.specs.declared.status.Status.TheVariants.{Done, Usage, Script, ReadFault, WriteFault, NoMemory}
 
--- for how many readers a command runs a script
+-- for how many readers a command runs the source's script; one that generates a script runs none
 abbrev pub readers_in : Command → Option ℕ
 readers_in (Run table limits) = Some limits.reader_count
 readers_in (Gen table number classes selectors) = None
 
--- for how many readers the words ask that a script is run; none where they ask nothing that the program does
+-- for how many readers the words ask that the source's script is run, if they do
 abbrev pub readers_of : List (List ℕ) → Option ℕ
-readers_of words = option_and_then readers_in (performed_of words)
+readers_of words = option_and_then readers_in (command_of words)
 
 -- the status that a fault ends with
 abbrev pub status_of : ScriptFault → Status
@@ -69,13 +71,40 @@ Ending readers WriteFault handed old new = NoReadFailed old new × (new.put_faul
     × ((bytes : List ℕ) × WasRead old.left new.left bytes × IsCutShort readers bytes old.taken new.taken handed)
 Ending readers NoMemory handed old new = NoReadFailed old new × EndsWith handed old new (fault_text fault.NoMemory)
 
+-- nothing was read
+abbrev pub NothingRead : Outside → Outside → Type 0
+NothingRead old new = (new.left ≡ old.left) × NoReadFailed old new
+
+-- what each status says of a run that performs this script, and prints the summary of its log: nothing is read
+abbrev pub SummedEnding : shown.Script → Status → Option Log → Outside → Outside → Type 0
+SummedEnding script Done handed old new = NothingRead old new × (new.put_faults ≡ old.put_faults)
+    × IsSummed script old.taken new.taken handed
+SummedEnding script WriteFault handed old new = NothingRead old new × (new.put_faults ≡ one_fault_more old.put_faults)
+    × IsSummedInPart script old.taken new.taken handed
+SummedEnding script NoMemory handed old new = NothingRead old new × EndsWith handed old new (fault_text fault.NoMemory)
+SummedEnding script _ handed old new = ⊥
+
+-- what each status says where the words write no command
+abbrev pub NoCommandEnding : Status → Option Log → Outside → Outside → Type 0
+NoCommandEnding Usage handed old new = NothingRead old new × EndsWith handed old new usage_text
+NoCommandEnding NoMemory handed old new = NothingRead old new × EndsWith handed old new (fault_text fault.NoMemory)
+NoCommandEnding _ handed old new = ⊥
+
+-- what each status says of a command
+abbrev pub CommandEnding : Option Command → Status → Option Log → Outside → Outside → Type 0
+CommandEnding None status handed old new = NoCommandEnding status handed old new
+CommandEnding (Some (Run table limits)) status handed old new = Ending limits.reader_count status handed old new
+CommandEnding (Some (Gen table number classes selectors)) status handed old new =
+    SummedEnding (generated_script number classes selectors) status handed old new
+
 -- what each status says of a run with these words
 abbrev pub RunEnding : List (List ℕ) → Status → Option Log → Outside → Outside → Type 0
-RunEnding words Usage handed old new =
-    (readers_of words ≡ None) × (new.left ≡ old.left) × NoReadFailed old new × EndsWith handed old new usage_text
-RunEnding words NoMemory handed old new = NoReadFailed old new × EndsWith handed old new (fault_text fault.NoMemory)
-RunEnding words status handed old new =
-    (readers : ℕ) × (readers_of words ≡ Some readers) × Ending readers status handed old new
+RunEnding words status handed old new = CommandEnding (command_of words) status handed old new
+
+-- the words ask for a generated script
+abbrev pub IsGeneration : Option Command → Type 0
+IsGeneration (Some (Gen table number classes selectors)) = Unit {0}
+IsGeneration _ = ⊥
 
 -- the program's number: of a run that ended so, or memory was wanted while nothing had been done
 abbrev pub EndsAs : List (List ℕ) → Type 0 → ℕ → Outside → Outside → Type 0

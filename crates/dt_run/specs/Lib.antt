@@ -21,6 +21,7 @@ pub mod Ending
 pub mod OutcomeExamples
 pub mod RunExamples
 pub mod EndingExamples
+pub mod SummedEndingExamples
 pub mod FaultExamples
 pub mod TextExamples
 pub mod SummaryExamples

@@ -1,4 +1,4 @@
--- What a run says of the source's bytes and of what the sink took.
+-- What a run says of the script, of the source's or a generated one, and of what the sink took.
 use Rattle.std.specs.Prelude.{◌≡◌, ℕ, ◌<◌, ◌≤◌, ◌⊎◌, List, length, Option, Some, IsSomeAnd}
 use Rattle.std.specs.Io.KnownBytes.{Appends}
 use Rattle.dt_outside.specs.Putting.{AppendsPrefix}
@@ -9,6 +9,7 @@ use Rattle.dt_script.specs.declared.script_fault.ScriptFault.{ScriptFault}
 use Rattle.dt_words.specs.declared.limits.TheConstants.{VERSIONS}
 use Rattle.dt_run.specs.Log.{Log}
 use Rattle.dt_run.specs.Outcome.{Outcome}
+use Rattle.dt_run.specs.Summary.{TookSummary, TookSummaryPrefix}
 use Rattle.dt_run.specs.Text.{text_of}
 
 -- The bytes are a script for so many readers, the log is an outcome of it, and the text is its text.
@@ -35,3 +36,13 @@ IsScript readers bytes = (length bytes ≤ SCRIPT_BYTES) × ((script : Script) �
 -- the bytes are no script: there are too many, or they have a fault
 abbrev pub IsNoScript : ℕ → List ℕ → Type 0
 IsNoScript readers bytes = (SCRIPT_BYTES < length bytes) ⊎ ((fault : ScriptFault) × IsFaultOf readers bytes fault)
+
+-- Summed: the log that is handed back is an outcome of the script, and the sink took its summary.
+abbrev pub IsSummed : Script → Option (List ℕ) → Option (List ℕ) → Option Log → Type 0
+IsSummed script before after handed =
+    IsSomeAnd handed (λ log. Outcome script VERSIONS log × TookSummary script.names log before after)
+
+-- Summed in part: as summed, but that the sink took a prefix of the summary.
+abbrev pub IsSummedInPart : Script → Option (List ℕ) → Option (List ℕ) → Option Log → Type 0
+IsSummedInPart script before after handed =
+    IsSomeAnd handed (λ log. Outcome script VERSIONS log × TookSummaryPrefix script.names log before after)

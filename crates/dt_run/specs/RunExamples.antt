@@ -55,7 +55,7 @@ smallest_was_run readers = record {
 }
 
 -- the log has to be an outcome of the script: without a batch the last version is 0
-no_other_last : (script : List Phase) → HasVersionsFrom 0 script phases 1 → ⊥
+pub no_other_last : (script : List Phase) → HasVersionsFrom 0 script phases 1 → ⊥
 no_other_last [] versions = versions
 no_other_last (phase ∷ []) (from, numbered, to, last) = absurd cc
 no_other_last (phase ∷ next ∷ more) (from, numbered, to, last) = last

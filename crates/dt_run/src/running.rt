@@ -1,28 +1,28 @@
-ghost use Rattle.std.specs.Prelude.{◌≡◌, ◌≢◌, ℕ, ◌+◌, ◌≤◌, ◌⊎◌, List, None, Some, IsTrue, IfSome, length};
-ghost use Rattle.dt_outside.specs.Faults.{Rose, one_fault_more};
+ghost use Rattle.std.specs.Prelude.{◌≡◌, ℕ, ◌+◌, ◌≤◌, ◌⊎◌, List, None, Some, IfSome};
+ghost use Rattle.dt_outside.specs.Faults.{Rose};
 ghost use Rattle.dt_outside.specs.Losing.{LosesAtMost};
-ghost use Rattle.dt_outside.specs.Putting.{Told};
 ghost use Rattle.dt_script.specs.Named.{HasNames};
 ghost use Rattle.dt_script.specs.Playable.{Playable};
-ghost use Rattle.dt_script.specs.Script as shown;
-ghost use Rattle.dt_script.specs.ScriptOf.{IsScriptOf, IsFaultOf};
+ghost use Rattle.dt_script.specs.ScriptOf.{IsScriptOf};
 ghost use Rattle.dt_script.specs.declared.limits.TheConstants.{CALLERS, SCRIPT_BYTES};
-ghost use Rattle.dt_run.specs.Ending.{outside, readers_of, status_of, Ending, RunEnding, Performed};
-ghost use Rattle.dt_run.specs.FaultText.{fault_text, usage_text};
+ghost use Rattle.dt_run.specs.Ending.{outside, readers_of, Ending, IsGeneration, RunEnding, Performed};
 ghost use Rattle.dt_run.specs.Outcome.{Outcome};
 ghost use Rattle.dt_run.specs.Run.{IsScript, IsNoScript};
+ghost use Rattle.dt_words.specs.CommandOf.{command_of};
 ghost use Rattle.dt_words.specs.declared.limits.TheConstants.{VERSIONS};
 
+use crate::generating::generate_by;
 use crate::log::Log;
 use crate::perform::perform_script;
-use crate::print::{print_fault, print_log};
+use crate::print::print_log;
+use crate::ran::{Ran, end_with_fault, end_with_usage};
 use crate::status::Status;
 use crate::turnstile::Turnstile;
 use dt_cells::{Pair, TableKind};
 use dt_colour::Colour;
 use dt_definitions::NoMemory;
 use dt_mrd::Mrd;
-use dt_outside::{Failed, Sink, Source, put_all};
+use dt_outside::{Failed, Sink, Source};
 use dt_row::Row;
 use dt_script::{
     Script, ScriptFault, bytes_have_one_answer, read_script, scripts_read_are_playable,
@@ -31,60 +31,6 @@ use dt_sti::Sti;
 use dt_words::{ArgWords, Command, Table, VERSIONS, WordsFault, read_words};
 use std::alloc::Global;
 use std::thread::Threads;
-
-/// How a run ended, and the log of what was performed: it is there exactly where the status is done or a write fault.
-#[derive(Debug, Drop)]
-pub struct Ran {
-    /// How the run ended.
-    pub status: Status,
-    /// What was performed: there at done and at a write fault alone.
-    pub log: Option<Log>,
-}
-
-// What is told where the words ask for no run.
-const USAGE: &str =
-    "usage: dispatch run --table sti|colour|row|mrd [--readers R] [--pages P] [--limit L]\n       dispatch gen --table sti|colour|row|mrd --number N --classes C --selectors S\n";
-
-// The status that a fault ends with.
-fn status_of(fault: ScriptFault) -> Status
-    ensures { result ≡ status_of fault }
-{
-    match fault {
-        ScriptFault::ReadFault => Status::ReadFault,
-        ScriptFault::NoMemory => Status::NoMemory,
-        _ => Status::Script,
-    }
-}
-
-// Puts the usage text. A sink that fails here changes nothing of the status.
-fn end_with_usage<K: Sink>(sink: &mut K) -> Ran
-    ensures status { result.status ≡ Status.Usage }
-    ensures log { result.log ≡ None }
-    ensures told { Told (K.taken sink.old) (K.taken sink.new) (K.faults sink.old) (K.faults sink.new) usage_text }
-    ensures counted { (K.faults sink.new ≡ K.faults sink.old) ⊎ (K.faults sink.new ≡ one_fault_more (K.faults sink.old)) }
-    ensures counts { K.faults sink.old ≤ K.faults sink.new }
-{
-    let _ = put_all(sink, USAGE.as_bytes());
-    Ran {
-        status: Status::Usage,
-        log: None,
-    }
-}
-
-// Puts the line of a fault, and ends with its status.
-fn end_with_fault<K: Sink>(sink: &mut K, fault: ScriptFault) -> Ran
-    ensures status { result.status ≡ status_of fault }
-    ensures log { result.log ≡ None }
-    ensures told { Told (K.taken sink.old) (K.taken sink.new) (K.faults sink.old) (K.faults sink.new) (fault_text fault) }
-    ensures counted { (K.faults sink.new ≡ K.faults sink.old) ⊎ (K.faults sink.new ≡ one_fault_more (K.faults sink.old)) }
-    ensures counts { K.faults sink.old ≤ K.faults sink.new }
-{
-    let _ = print_fault(sink, fault);
-    Ran {
-        status: status_of(fault),
-        log: None,
-    }
-}
 
 // Prints the log of a script, and hands it back.
 fn print<K: Sink>(sink: &mut K, script: &Script, log: Log) -> Ran
@@ -184,18 +130,21 @@ fn run_by<S: Source, K: Sink, T: Turnstile>(
     }
 }
 
-/// Runs the program: reads the words, then the source to its end, performs the script, and prints the log to the sink.
+/// Runs the program. The words ask for one of two things. `run` reads the source to its end, performs the script that its
+/// bytes are, and prints the log to the sink. `gen` makes a script from a number, performs it, and prints the summary of
+/// its log; nothing is read.
+///
 /// Each call is answered after the edits of its phase, or at the version of its caller's pin. Calls without a pin in force
 /// are answered by the table: those with one argument by selector table indexing (`sti`), selector colouring (`colour`) or row
 /// displacement (`row`), those with more by multiple row displacement; and with `mrd` all of them by that. Calls under a pin are
 /// looked up from scratch. What is answered is the same.
 ///
-/// The status tells how it ended. [`Status::Done`]: the bytes are a script for as many readers as the words say, the log
-/// is an outcome of it, and the sink took its text. [`Status::Usage`]: exactly where the words ask for no run and memory
-/// was found to read them; the source wasn't read. [`Status::Script`]: the source gave more bytes than a script may have,
-/// or its bytes to the end have a fault, which is told. [`Status::ReadFault`]: the source failed, and had given no more
-/// bytes than a script may have.
-/// [`Status::WriteFault`]: the sink failed while the log was printed, and took a prefix of its text.
+/// The status tells how it ended. [`Status::Done`]: the log is an outcome of the script (of the one that the bytes are, for
+/// as many readers as the words say; or of the generated one), and the sink took its text, or its summary.
+/// [`Status::Usage`]: exactly where the words write no command and memory was found to read them; the source wasn't read.
+/// [`Status::Script`]: the source gave more bytes than a script may have, or its bytes to the end have a fault, which is
+/// told. [`Status::ReadFault`]: the source failed, and had given no more bytes than a script may have.
+/// [`Status::WriteFault`]: the sink failed while the log or the summary was printed, and took a prefix of it.
 /// [`Status::NoMemory`]: memory was wanted. Where the status is another than done or a write fault, the sink took the
 /// text of the fault or the usage text, or a prefix of it where the sink failed. It starts no thread.
 ///
@@ -210,14 +159,14 @@ pub fn run<H: Threads + Sync, S: Source, K: Sink, T: Turnstile>(
     sink: &mut K,
     turnstile: &T,
 ) -> Ran
-    // How it ends, status by status. At done it is the headline, for scripts whose calls come after the edits of their
-    // phase.
+    // How it ends, command by command and status by status. At done it is the headline, for scripts whose calls come after
+    // the edits of their phase.
     ensures ends { RunEnding words.now result.status result.log
         (outside (S.left source.old) (S.faults source.old) (K.taken sink.old) (K.faults sink.old))
         (outside (S.left source.new) (S.faults source.new) (K.taken sink.new) (K.faults sink.new)) }
 
-    // The words decide whether there is a run; where there is none, nothing is read.
-    ensures usage { readers_of words.now ≡ None → (result.status ≡ Status.Usage) ⊎ (result.status ≡ Status.NoMemory) }
+    // The words decide whether there is a command; where they ask for no script of the source's, nothing is read.
+    ensures usage { command_of words.now ≡ None → (result.status ≡ Status.Usage) ⊎ (result.status ≡ Status.NoMemory) }
     ensures unread { readers_of words.now ≡ None → source.new ≡ source.old }
 
     // A fault of a script is always found, and a script is always performed, unless the outside fails or memory is
@@ -232,6 +181,10 @@ pub fn run<H: Threads + Sync, S: Source, K: Sink, T: Turnstile>(
         → IfSome (S.left source.old) (λ bytes. IsScript readers bytes
         → (result.status ≡ Status.Done) ⊎ (result.status ≡ Status.NoMemory)) }
 
+    // A generated script is always performed, unless the sink fails or memory is wanted.
+    ensures generated { IsGeneration (command_of words.now) → (Rose (K.faults sink.old) (K.faults sink.new) → ⊥)
+        → (result.status ≡ Status.Done) ⊎ (result.status ≡ Status.NoMemory) }
+
     // What is read, and the counts.
     ensures reads_at_most { LosesAtMost (SCRIPT_BYTES + 1) (S.left source.old) (S.left source.new) }
     ensures source_counts { S.faults source.old ≤ S.faults source.new }
@@ -242,7 +195,14 @@ pub fn run<H: Threads + Sync, S: Source, K: Sink, T: Turnstile>(
         Ok(Command::Run { table, limits }) => {
             run_by(alloc, table, source, sink, limits.readers(), turnstile)
         }
-        Ok(Command::Gen { .. }) => end_with_usage(sink),
+        Ok(
+            Command::Gen {
+                table,
+                number,
+                classes,
+                selectors,
+            },
+        ) => generate_by(alloc, table, number, classes, selectors, sink, turnstile),
         Err(WordsFault::Usage) => end_with_usage(sink),
         Err(WordsFault::NoMemory) => end_with_fault(sink, ScriptFault::NoMemory),
     }

@@ -1,5 +1,6 @@
-use Rattle.std.proofs.Common.{◌≡◌, ◌∙◌, ap, inl, inr, refl}
-use Rattle.dt_run.specs.Ending.{readers_of}
+use Rattle.std.proofs.Common.{◌≡◌, ◌∙◌, ap, inl, inr, refl, subst, sym}
+use Rattle.dt_words.specs.CommandOf.{command_of}
+use Rattle.dt_run.specs.Ending.{readers_of, IsGeneration}
 use Rattle.dt_run.specs.Run.{IsScript, IsNoScript}
 use Rattle.dt_run.specs.Status.{number_of}
 use Rattle.dt_run.specs.declared.status.Status.TheVariants.{Done, Usage, Script, NoMemory}
@@ -37,7 +38,16 @@ pub returns-clause-usage : goal.returns-clause-usage
 returns-clause-usage g c = λ none. elim c.match-words_of.branch [
   | in-Ok w ↦
       let e : c.number.result ≡ number_of w.run.result.status = c.number.ensures ∙ ap number_of w.status-is in
-      numbers_say w.run.result.status Usage NoMemory e (w.run.ensures.usage (ap readers_of (given_words _ _ _ w.in-Ok.words w.in-Ok.ensures) ∙ none))
+      numbers_say w.run.result.status Usage NoMemory e (w.run.ensures.usage (ap command_of (given_words _ _ _ w.in-Ok.words w.in-Ok.ensures) ∙ none))
+  | in-Err w ↦ inr (c.number.ensures ∙ ap number_of w.status-is)
+]
+
+pub returns-clause-generated : goal.returns-clause-generated
+returns-clause-generated g c = λ generation calm_sink. elim c.match-words_of.branch [
+  | in-Ok w ↦
+      let e : c.number.result ≡ number_of w.run.result.status = c.number.ensures ∙ ap number_of w.status-is in
+      numbers_say w.run.result.status Done NoMemory e
+      (w.run.ensures.generated (subst (λ words. IsGeneration (command_of words)) (sym (given_words _ _ _ w.in-Ok.words w.in-Ok.ensures)) generation) (rw (← w.sink-is) calm_sink))
   | in-Err w ↦ inr (c.number.ensures ∙ ap number_of w.status-is)
 ]
 
