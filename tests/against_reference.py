@@ -1,11 +1,12 @@
 #!/usr/bin/env python3
-"""Compares a built program with the second implementation in reference.py.
+"""Compares a built program with the second implementation in reference.py, reference_generated.py and reference_words.py.
 
-    against_reference.py [--scripts COUNT] [--seed SEED] PROGRAM
+    against_reference.py [--scripts COUNT] [--seed SEED] [--every-table] [--chance-alone] PROGRAM
 
-Each beginning of two scripts, scripts at the limits of the language, and COUNT scripts made by chance (300, where it isn't
-said), of which a third is broken somewhere: what the program prints and the status with which it ends have to be the
-same. The four tables take turns. Prints what differs, and as its last line how many passed.
+Each beginning of two scripts, scripts at the limits of the language, generated scripts, command lines, and COUNT scripts
+made by chance (300, where it isn't said), of which a third is broken somewhere: what the program prints and the status with
+which it ends have to be the same. The four tables take turns; generated scripts, and with --every-table the scripts by
+chance, are performed by each. Prints what differs, what the scripts by chance met, and as its last line how many passed.
 """
 
 import argparse
@@ -13,12 +14,15 @@ import random
 import subprocess
 import sys
 import tempfile
+from collections import Counter
 from pathlib import Path
 
 import reference
+import reference_generated
+import reference_words
 
 FOLDER = Path(__file__).parent
-TABLES = ("sti", "colour", "row", "mrd")
+TABLES = reference_words.TABLES
 
 
 class Comparison:
@@ -27,17 +31,22 @@ class Comparison:
         self.passed = 0
         self.failed = 0
 
-    def compare(self, name, data, readers=8, wanted=None):
+    def compare(self, name, data, readers=8, wanted=None, tables=None):
         """Runs both on the script, or the program alone where it is known what it has to print."""
-        text, status = wanted or reference.run(data, readers)
-        table = TABLES[(self.passed + self.failed) % len(TABLES)]
-        words = ["run", "--table", table] + ([] if readers == 8 else ["--readers", str(readers)])
+        wanted = wanted or reference.run(data, readers)
+        for table in tables or (TABLES[(self.passed + self.failed) % len(TABLES)],):
+            words = ["run", "--table", table] + ([] if readers == 8 else ["--readers", str(readers)])
+            self.expect(f"{name}, table {table}", words, data, wanted)
+
+    def expect(self, name, words, data, wanted):
+        """Runs the program with these words and this input."""
+        text, status = wanted
         ran = subprocess.run([self.program, *words], input=data, capture_output=True, check=False)
         if (ran.stdout, ran.returncode, ran.stderr) == (text.encode(), status, b""):
             self.passed += 1
             return
         self.failed += 1
-        print(f"{name}, table {table}: status {ran.returncode}, expected {status}")
+        print(f"{name}: status {ran.returncode}, expected {status}")
         got, want = ran.stdout.decode(errors="replace").split("\n"), text.split("\n")
         for number, (one, other) in enumerate(zip(got, want), 1):
             if one != other:
@@ -45,8 +54,8 @@ class Comparison:
                 break
         else:
             print(f"  {len(got)} lines, expected {len(want)}")
-        kept = Path(tempfile.gettempdir()) / f"differs-{self.failed}.dispatch"
-        if self.failed <= 5:
+        if data and self.failed <= 5:
+            kept = Path(tempfile.gettempdir()) / f"differs-{self.failed}.dispatch"
             kept.write_bytes(data)
             print(f"  the script is kept as {kept}")
 
@@ -140,12 +149,77 @@ def callers(comparison):
     comparison.compare("caller 2 of one", script("caller 1", "caller 2", "end"), readers=1)
 
 
+# Generated scripts: a number, classes, selectors. The forty-ninth selector is the first of two arguments, and where a batch
+# of 500 definitions ends there are one fewer, as many, and one more.
+GENERATED = (
+    (0, 2, 1), (4_294_967_295, 2, 1), (1, 2, 49), (1, 2, 50), (2, 3, 51), (3, 12, 166), (4, 40, 167), (5, 8, 500),
+    (6, 400, 1), (7, 300, 100),
+)
+
+
+def generated(comparison):
+    """The summary of generated scripts, and the log of one whose text goes in by standard input."""
+    for number, classes, selectors in GENERATED:
+        wanted = reference_generated.generate(number, classes, selectors)
+        for table in TABLES:
+            words = f"gen --table {table} --number {number} --classes {classes} --selectors {selectors}"
+            comparison.expect(words, words.split(), b"", wanted)
+    text = reference_generated.Generator(8, 9, 60).text()
+    comparison.compare("the text of a generated script", text, tables=TABLES)
+
+
+def command_lines(comparison):
+    """Words by chance, with something wrong in them mostly; where nothing is, both perform what they ask."""
+    chance = random.Random(1)
+    for _ in range(300):
+        words = some_words(chance)
+        wanted = reference_words.answer(words, lambda: b"dispatch 1\nend\n")
+        comparison.expect(f"the words {words}", words, b"dispatch 1\nend\n", wanted)
+
+
+def some_words(chance):
+    """The words of a good command line, in any order and spelling, with up to two of them changed."""
+    values = {
+        "run": {"table": TABLES, "readers": ("1", "8", "256"), "pages": ("16", "65536"), "limit": ("1", "2147483648")},
+        "gen": {"table": TABLES, "number": ("0", "4294967295"), "classes": ("2", "3"), "selectors": ("1", "2")},
+    }
+    bad = ("", "0", "1", "257", "2049", "4097", "4294967296", "01", "00", "+1", "-1", "--", "-", "1 ", "1x", "sti ", "Mrd",
+           "99999999999", "18446744073709551617", "=1", "--table", "--table=sti", "--number=1", "run", "gen", "--help")
+    name = chance.choice(("run", "gen", "gen"))
+    options = list(values[name].items())
+    chance.shuffle(options)
+    words = []
+    for option, good in options:
+        if name == "run" and option != "table" and chance.random() < 0.5:
+            continue
+        value = chance.choice(good)
+        words += [f"--{option}={value}"] if chance.random() < 0.5 else [f"--{option}", value]
+    words.insert(0, name)
+    for _ in range(chance.choice((0, 1, 1, 1, 2))):
+        place = chance.randrange(len(words))
+        match chance.randrange(5):
+            case 0:
+                del words[place]
+            case 1:
+                words.insert(place, chance.choice(bad))
+            case 2:
+                words.append(words[place])
+            case 3:
+                words[place] = words[place].partition("=")[0] + chance.choice(("", "=")) + chance.choice(bad)
+            case 4:
+                words[place] = chance.choice(bad)
+        if not words:
+            break
+    return words
+
+
 class Chance:
     """A script by chance: few names, so that edits meet each other."""
 
     def __init__(self, seed):
         self.random = random.Random(seed)
-        self.classes = [f"c{number}" for number in range(self.random.choice((2, 4, 8, 20)))]
+        self.classes = [f"c{number}" for number in range(self.random.choice((2, 4, 8, 20, 40)))]
+        self.shape = self.random.choice(("any", "any", "deep", "wide"))
         self.selectors = {f"s{number}": self.random.randint(1, 4) for number in range(self.random.choice((1, 2, 4)))}
 
     def draw_class(self):
@@ -187,11 +261,17 @@ class Chance:
             else:
                 yield self.edit()
 
+    def parents_of(self, place):
+        """The parents of a class, among those before it."""
+        if self.shape == "any" or place == 0:
+            return self.random.sample(self.classes[:place], min(place, self.random.choice((0, 1, 1, 2))))
+        return [self.classes[place - 1 if self.shape == "deep" else self.random.randrange(min(place, 3))]]
+
     def lines(self):
         yield "dispatch 1"
         if self.random.random() < 0.8:
             for place, name in enumerate(self.classes):
-                above = self.random.sample(self.classes[:place], min(place, self.random.choice((0, 1, 1, 2))))
+                above = self.parents_of(place)
                 yield " ".join(["class", name] + (["<"] + above if above else []))
             for selector, arity in self.selectors.items():
                 yield f"selector {selector} {arity}"
@@ -240,17 +320,51 @@ class Chance:
         return ("\n".join(lines) + self.random.choice(("\n", "\n", ""))).encode()
 
 
+def met(text):
+    """What the output of a script by chance has in it."""
+    lines = [line.split(" ") for line in text.split("\n")]
+    pinned = set()
+    if lines[0][0] == "fault":
+        yield f"fault {lines[0][1]}"
+        return
+    yield "valid"
+    for words in lines:
+        if words[0] == "edit":
+            yield f"batches {words[1]}"
+        elif words[0] == "pin":
+            pinned.add(words[1])
+        elif words[0] == "unpin":
+            pinned.remove(words[1])
+        elif words[0] == "call":
+            yield "calls under a pin" if words[1] in pinned else "calls"
+            if words[2] == "worn":
+                yield "calls worn"
+
+
+def by_chance(comparison, seeds, tables):
+    counts = Counter()
+    for seed in seeds:
+        data = Chance(seed).data()
+        wanted = reference.run(data, 8)
+        counts.update(met(wanted[0]))
+        comparison.compare(f"script {seed}", data, wanted=wanted, tables=tables)
+    print(f"{len(seeds)} scripts by chance: " + ", ".join(f"{what} {counts[what]}" for what in sorted(counts)))
+
+
 def main():
     parser = argparse.ArgumentParser()
     parser.add_argument("--scripts", type=int, default=300)
     parser.add_argument("--seed", type=int, default=1)
+    parser.add_argument("--every-table", action="store_true")
+    parser.add_argument("--chance-alone", action="store_true")
     parser.add_argument("program")
     chosen = parser.parse_args()
     comparison = Comparison(str(Path(chosen.program).resolve()))
-    for part in (beginnings, full_books, full_definitions, long_texts, callers):
+    parts = (beginnings, full_books, full_definitions, long_texts, callers, generated, command_lines)
+    for part in () if chosen.chance_alone else parts:
         part(comparison)
-    for seed in range(chosen.seed, chosen.seed + chosen.scripts):
-        comparison.compare(f"script {seed}", Chance(seed).data())
+    seeds = range(chosen.seed, chosen.seed + chosen.scripts)
+    by_chance(comparison, seeds, TABLES if chosen.every_table else None)
     print(f"{comparison.passed} passed, {comparison.failed} failed")
     return 1 if comparison.failed else 0
 

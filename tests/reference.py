@@ -17,7 +17,7 @@ PARENTS = 16
 DEFINITIONS = 65_536
 CELLS = 4_194_304
 ROWS = 16_384
-WORD = re.compile(rb"[!-~]{1,64}")
+LINE = re.compile(rb"[!-~]{1,64}( [!-~]{1,64})*")
 NUMBER = re.compile(rb"[1-9][0-9]{0,2}")
 
 
@@ -124,16 +124,15 @@ def read(data, readers):
     for number, line in enumerate(lines[1:], 2):
         if line == b"" or line.startswith(b"#"):
             continue
-        words = line.split(b" ")
-        meant = parts_of(words) if all(WORD.fullmatch(word) for word in words) else None
+        meant = parts_of(line.split(b" ")) if LINE.fullmatch(line) else None
         if meant is None or not places.may_stand(*meant):
             raise Fault(f"malformed {number}")
         kind, parts = meant
         for space, name in parts:
-            if space in books:
-                books[space].setdefault(name, len(books[space]))
-        if any(len(book) > NAMES[space] for space, book in books.items()):
-            raise Fault(f"names-full {number}")
+            if space in books and name not in books[space]:
+                books[space][name] = len(books[space])
+                if len(books[space]) > NAMES[space]:
+                    raise Fault(f"names-full {number}")
         batches, callers = phases[-1]
         if kind == "phase":
             phases.append(([], []))
@@ -164,7 +163,13 @@ class Program:
         self.parents = {}
         self.arity = {}
         self.bodies = {}
+        self.forget_found()
+
+    def forget_found(self):
+        """Nothing that was found in the program is known any more."""
         self.above = {}
+        self.below = {}
+        self.replies = {}
 
     def copy(self):
         other = Program()
@@ -182,6 +187,15 @@ class Program:
             self.above[name] = found
         return self.above[name]
 
+    def below_of(self, name):
+        """The class and all classes below it."""
+        if not self.below:
+            self.below = {other: set() for other in self.parents}
+            for other in self.parents:
+                for above in self.above_of(other):
+                    self.below[above].add(other)
+        return self.below[name]
+
     def count(self):
         return sum(len(bodies) for bodies in self.bodies.values())
 
@@ -189,22 +203,22 @@ class Program:
         """How many calls are understood, and how many rows there are."""
         cells = rows = 0
         for bodies in self.bodies.values():
-            more = self.sizes_below(frozenset(bodies), {})
-            cells, rows = cells + more[0], rows + more[1]
+            if bodies:
+                more = self.sizes_below(frozenset(bodies), {})
+                cells, rows = cells + more[0], rows + more[1]
         return cells, rows
 
     def sizes_below(self, tuples, found):
         """The same of the lists of classes that are below one of the tuples; equal sets of tuples are gone through once."""
-        if not tuples:
-            return 0, 0
-        if () in tuples:
-            return 1, 0
         if tuples not in found:
-            cells, rows = 0, 1
-            for name in self.parents:
-                above = self.above_of(name)
-                more = self.sizes_below(frozenset(one[1:] for one in tuples if one[0] in above), found)
-                cells, rows = cells + more[0], rows + more[1]
+            firsts = set().union(*(self.below_of(one[0]) for one in tuples))
+            cells, rows = len(firsts), 1
+            if any(len(one) > 1 for one in tuples):
+                cells = 0
+                for name in firsts:
+                    above = self.above_of(name)
+                    more = self.sizes_below(frozenset(one[1:] for one in tuples if one[0] in above), found)
+                    cells, rows = cells + more[0], rows + more[1]
             found[tuples] = cells, rows
         return found[tuples]
 
@@ -222,7 +236,7 @@ class Program:
 
     def edit(self, kind, parts, numbers):
         """Makes the edit, or raises its refusal."""
-        self.above = {}
+        self.forget_found()
         names = [name for _, name in parts]
         getattr(self, "edit_" + kind)(names, numbers)
 
@@ -299,6 +313,12 @@ class Program:
         del self.bodies[selector][classes]
 
     def reply(self, selector, classes):
+        """What a call is answered; equal calls of one version are looked up once."""
+        if (selector, classes) not in self.replies:
+            self.replies[selector, classes] = self.look_up(selector, classes)
+        return self.replies[selector, classes]
+
+    def look_up(self, selector, classes):
         if selector not in self.arity:
             return "no-selector"
         if len(classes) != self.arity[selector]:
@@ -379,9 +399,14 @@ def run(data, readers):
     return "".join(f"{line}\n" for line in perform(books, phases)), 0
 
 
+def standard_input():
+    """The bytes of standard input, up to the first that is one too many."""
+    return sys.stdin.buffer.read(SCRIPT_BYTES + 1)
+
+
 sys.setrecursionlimit(10_000)
 
 if __name__ == "__main__":
-    printed, ending = run(sys.stdin.buffer.read(), int(sys.argv[1]) if len(sys.argv) > 1 else 8)
+    printed, ending = run(standard_input(), int(sys.argv[1]) if len(sys.argv) > 1 else 8)
     sys.stdout.write(printed)
     sys.exit(ending)
