@@ -14,6 +14,9 @@ printf 'phase 1 0 0\ndone 0\n' >"$folder/nothing_done"
 printf 'fault too-long\n' >"$folder/too_long"
 printf 'fault no-header\n' >"$folder/no_header"
 printf 'fault read\n' >"$folder/fault_read"
+# What tests/reference_words.py prints for the number 0, two classes and one selector.
+printf '%s\n' 'classes 2' 'selectors 1' 'accepted 191' 'refused 12' 'method 14990' 'ambiguous 0' 'not-understood 5010' \
+    'other 0' 'mix 574794718' 'done 191' >"$folder/summary"
 printf '%s\n' 'usage: dispatch run --table sti|colour|row|mrd [--readers R] [--pages P] [--limit L]' \
     '       dispatch gen --table sti|colour|row|mrd --number N --classes C --selectors S' >"$folder/usage"
 : >"$folder/no_text"
@@ -73,6 +76,16 @@ run --limit=2147483648 --pages=65536 --table sti
 WORDS
 while read -r words; do
     # shellcheck disable=SC2086
+    ends "the words $words" 0 "$folder/summary" "$folder/empty" $words
+done <<'WORDS'
+gen --table sti --number 0 --classes 2 --selectors 1
+gen --table colour --number 0 --classes 2 --selectors 1
+gen --table row --number 0 --classes 2 --selectors 1
+gen --table mrd --number 0 --classes 2 --selectors 1
+gen --selectors=1 --classes 2 --number=0 --table=mrd
+WORDS
+while read -r words; do
+    # shellcheck disable=SC2086
     ends "the words $words" 2 "$folder/usage" "$folder/empty" $words
 done <<'WORDS'
 run
@@ -117,7 +130,33 @@ help
 --table sti run
 --table run sti
 gen
-gen --table sti --number 1 --classes 2 --selectors 1
+gen --table sti
+gen --number 0 --classes 2 --selectors 1
+gen --table sti --classes 2 --selectors 1
+gen --table sti --number 0 --selectors 1
+gen --table sti --number 0 --classes 2
+gen --table sti --number 0 --classes 2 --selectors
+gen --table other --number 0 --classes 2 --selectors 1
+gen --table sti --number 4294967296 --classes 2 --selectors 1
+gen --table sti --number -1 --classes 2 --selectors 1
+gen --table sti --number 00 --classes 2 --selectors 1
+gen --table sti --number 0 --classes 1 --selectors 1
+gen --table sti --number 0 --classes 2049 --selectors 1
+gen --table sti --number 0 --classes 02 --selectors 1
+gen --table sti --number 0 --classes 65538 --selectors 1
+gen --table sti --number 0 --classes 2 --selectors 0
+gen --table sti --number 0 --classes 2 --selectors 4097
+gen --table sti --number 0 --classes 2 --selectors one
+gen --table sti --number 0 --classes 2 --selectors 65537
+gen --table sti --number 0 --classes 2 --selectors 1 --number 0
+gen --table sti --number 0 --classes 2 --selectors 1 --readers 4
+gen --table sti --number 0 --classes 2 --selectors 1 --pages 65536
+gen --table sti --number 0 --classes 2 --selectors 1 --limit 1
+gen --table sti --number 0 --classes 2 --selectors 1 1
+gen --table sti --number 0 --classes 2 --selectors 1 --
+gen -- --table sti --number 0 --classes 2 --selectors 1
+gen --help
+Gen --table sti --number 0 --classes 2 --selectors 1
 WORDS
 ends "no word" 2 "$folder/usage" "$folder/empty"
 ends "an empty word" 2 "$folder/usage" "$folder/empty" run --table ""
@@ -133,11 +172,17 @@ ends "caller 256 of 255" 3 "$folder/malformed" "$folder/caller_last" run --reade
 ends "no byte" 3 "$folder/no_header" /dev/null run --table sti
 ends "bytes without an end" 3 "$folder/too_long" /dev/zero run --table sti
 ends "an input that can't be read" 4 "$folder/fault_read" / run --table sti
+# A generated script is performed whatever stands on standard input, which isn't read.
+ends "gen, an input that can't be read" 0 "$folder/summary" / gen --table sti --number 0 --classes 2 --selectors 1
+ends "gen, bytes without an end" 0 "$folder/summary" /dev/zero gen --table sti --number 0 --classes 2 --selectors 1
 
 # What a device takes that is always full can't be looked at.
-status=0
-"$program" run --table sti <"$folder/empty" >/dev/full || status=$?
-ended "a full device" "$status" 5 "$folder/no_text" "$folder/no_text"
+for words in "run --table sti" "gen --table sti --number 0 --classes 2 --selectors 1"; do
+    status=0
+    # shellcheck disable=SC2086
+    "$program" $words <"$folder/empty" >/dev/full || status=$?
+    ended "a full device, $words" "$status" 5 "$folder/no_text" "$folder/no_text"
+done
 
 # The words of the benchmark, where it is built: good ones take a moment, and what they print is the machine's.
 bench=crates/dispatch_bench/out/dispatch_bench
