@@ -2,8 +2,8 @@
 # Runs each script of tests/scripts on the program PROGRAM with each kind of table, and compares what it prints and its
 # exit status with what is wanted: of NAME.dispatch the text NAME.out, and the status in NAME.status, or 0 where there is
 # none. Of no_scripts.txt each line is an input of its own. What is wanted was written by hand from the rules of
-# docs/SCRIPT.md, and is what tests/reference.py prints; it was never taken from the program. Prints what differs, and as
-# its last line how many passed.
+# docs/SCRIPT.md, and is what tests/reference.py prints; of larger_batches, larger_pins and from_one_table_to_the_other it is
+# tests/reference.py's alone. It was never taken from the program. Prints what differs, and as its last line how many passed.
 set -eu
 program=${1:?"usage: tests/scripts.sh PROGRAM"}
 case $program in
