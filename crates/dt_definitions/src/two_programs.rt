@@ -1,7 +1,10 @@
-ghost use Rattle.std.specs.Prelude.{◌≡◌, IfOk, IfErr};
+ghost use Rattle.std.specs.Prelude.{◌≡◌, IfOk, IfErr, reverse};
+ghost use Rattle.dt_definitions.specs.Program as shown;
 ghost use Rattle.dt_definitions.specs.Program.{empty_program};
+ghost use Rattle.dt_definitions.specs.SecondProgram.{tried_or, IsSecondOf};
 ghost use Rattle.dt_definitions.specs.Step.{AppliesBatch};
 ghost use Rattle.dt_definitions.specs.TwoPrograms.{IsSettledAt};
+ghost use Rattle.dt_definitions.specs.Undo.{undoing, LeadsBack};
 
 use crate::batch::Batch;
 use crate::edit::Edit;
@@ -28,6 +31,52 @@ enum Second {
     },
     // There is none. A copy takes its place.
     Gone,
+}
+
+// What becomes of the second program where the batch that is tried on it is refused: it is behind by no edit. Where no room
+// was found to undo the batch, it is gone.
+fn undone(alloc: Global, mut program: Program, batch: Batch, kept: Vec<Edit>) -> Second
+    ensures { (old : shown.Program) → LeadsBack program (undoing (reverse batch) (reverse kept.items)) old
+        → IsSecondOf old result × (tried_or old result ≡ old) }
+{
+    if program.undo(&batch, kept).is_err() {
+        return Second::Gone;
+    }
+    program.give_back(&batch);
+    Second::Behind {
+        program,
+        batch: Batch::new(alloc),
+    }
+}
+
+// Tries the batch on a program that is equal to the one that stands, and makes it the second.
+fn try_on(
+    alloc: Global,
+    second: &mut Second,
+    mut program: Program,
+    batch: Batch,
+) -> Result<(), BatchFault>
+    ensures applies { AppliesBatch program batch (tried_or program second.new) result }
+    ensures second { IsSecondOf program second.new }
+{
+    match program.apply_kept(&batch) {
+        Ok(kept) => {
+            *second = Second::Tried {
+                program,
+                batch,
+                kept,
+            };
+            Ok(())
+        }
+        Err(fault) => {
+            program.give_back(&batch);
+            *second = Second::Behind {
+                program,
+                batch: Batch::new(alloc),
+            };
+            Err(fault)
+        }
+    }
 }
 
 /// A program as it stands, and the program after a batch that is tried. The batch is accepted or refused without
@@ -116,27 +165,10 @@ impl TwoPrograms {
         ensures stays { self.new.stands ≡ self.old.stands }
     {
         self.refuse();
-        let Ok(mut program) = self.take_second() else {
+        let Ok(program) = self.take_second() else {
             return Err(BatchFault::NoMemory);
         };
-        match program.apply_kept(&batch) {
-            Ok(kept) => {
-                self.second = Second::Tried {
-                    program,
-                    batch,
-                    kept,
-                };
-                Ok(())
-            }
-            Err(fault) => {
-                program.give_back(&batch);
-                self.second = Second::Behind {
-                    program,
-                    batch: Batch::new(self.alloc),
-                };
-                Err(fault)
-            }
-        }
+        try_on(self.alloc, &mut self.second, program, batch)
     }
 
     /// The new program stands from now on. It takes no memory, and time that doesn't grow with the programs or the batch:
@@ -157,21 +189,13 @@ impl TwoPrograms {
     pub fn refuse(&mut self)
         ensures { IsSettledAt self.old.stands self.new }
     {
-        match mem::replace(&mut self.second, Second::Gone) {
+        self.second = match mem::replace(&mut self.second, Second::Gone) {
             Second::Tried {
-                mut program,
+                program,
                 batch,
                 kept,
-            } => {
-                if program.undo(&batch, kept).is_ok() {
-                    program.give_back(&batch);
-                    self.second = Second::Behind {
-                        program,
-                        batch: Batch::new(self.alloc),
-                    };
-                }
-            }
-            second => self.second = second,
-        }
+            } => undone(self.alloc, program, batch, kept),
+            second => second,
+        };
     }
 }
