@@ -32,11 +32,11 @@ pub fn law_of_cells()
     ensures answers { CellsAreAnswers }
 {}
 
-/// An edit changes the replies that it concerns, and no others: of a class that comes, goes, is linked or unlinked, the
-/// queries with a class at or below it, by the links before or after, which is the same; of a selector that comes or
-/// goes, its own; of a definition that comes, is replaced or goes, those of its selector whose classes are each at or
-/// below its own in the same position. A batch changes the replies that one of its edits concerns by the links before the
-/// batch. It does nothing: a caller whose reasoning needs this calls it.
+/// An edit changes no reply but those that it concerns: of a class that comes, goes, is linked or unlinked, to the queries
+/// with a class at or below it, by the links before or after, which is the same; of a selector that comes or goes, to its
+/// own; of a definition that comes, is replaced or goes, to those of its selector whose classes are each at or below its
+/// own in the same position. A batch changes none but those that one of its edits concerns by the links before the batch.
+/// It does nothing: a caller whose reasoning needs this calls it.
 pub fn edits_change_what_they_concern()
     ensures edit { EditsChangeWhatTheyConcern }
     ensures before_and_after { EditsConcernTheSameAfter }
