@@ -18,7 +18,7 @@ MayAnswer entry version = version ≡ entry.to
 
 -- An entry under a pin, if one is in force, whose caller has seen the version `least`. Without a pin a call and a pin
 -- see a version that they may, no older than `least`; a call under a pin sees the pinned version; a call is answered by
--- look-up from scratch after that many batches. Nothing is worn.
+-- look-up from scratch after that many batches. No other line may stand in a log: neither `CallWorn` nor `PinWorn`.
 abbrev pub Answers : List Batch → Option ℕ → ℕ → CallerEntry → CallerLine → CallLine → Type 0
 Answers history None least entry (Call query) (Called stamped) =
     MayAnswer entry stamped.version × (least ≤ stamped.version)

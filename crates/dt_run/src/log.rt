@@ -20,7 +20,7 @@ pub enum EditLine {
     Refused { at: u32, why: Why },
     /// There may be no further version.
     VersionsFull,
-    /// The program would have more understood tuples than it may have.
+    /// The program would have more understood queries than it may have.
     CellsFull,
     /// The program would have more rows than it may have.
     RowsFull,

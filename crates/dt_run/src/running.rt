@@ -159,8 +159,7 @@ pub fn run<H: Threads + Sync, S: Source, K: Sink, T: Turnstile>(
     sink: &mut K,
     turnstile: &T,
 ) -> Ran
-    // How it ends, command by command and status by status. At done it is the headline, for scripts whose calls come after
-    // the edits of their phase.
+    // How it ends, command by command and status by status.
     ensures ends { RunEnding words.now result.status result.log
         (outside (S.left source.old) (S.faults source.old) (K.taken sink.old) (K.faults sink.old))
         (outside (S.left source.new) (S.faults source.new) (K.taken sink.new) (K.faults sink.new)) }
