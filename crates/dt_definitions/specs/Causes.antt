@@ -50,7 +50,7 @@ abbrev pub arity_differs : Program → ℕ → List ℕ → Bool
 arity_differs program selector classes =
     option_map_or (λ arity. not (arity == length classes)) (arity_of program selector) false
 
--- why a selector has no place for the classes, whether it is defined there or not
+-- the causes for which a selector is neither defined nor undefined at the classes
 abbrev pub place_causes : Program → ℕ → List ℕ → List (Option Why)
 place_causes p selector classes =
     cause_if (not (has_selector p.selectors selector)) why.SelectorUnknown

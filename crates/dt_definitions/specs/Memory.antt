@@ -22,7 +22,7 @@ may_want_memory p (Define selector classes body) =
     is_none (refusal p (Define selector classes body)) && not (has_definition p selector classes)
 may_want_memory p (Undefine selector classes) = false
 
--- whether it takes memory to keep what undoes the edit: what a drop, a definition or its end leave doesn't tell it
+-- whether it takes memory to keep what undoes the edit: a drop, a definition or its end doesn't tell what was there
 abbrev pub undoing_takes_memory : Edit → Bool
 undoing_takes_memory (AddClass class parents) = false
 undoing_takes_memory (DropClass class) = true
