@@ -19,9 +19,9 @@ use crate::words::is_word;
 use dt_outside::{ReadFault, Source, read_to_end};
 use std::alloc::Global;
 
-/// The script that the source gives, for callers from 1 to `readers`, which is 1 to [`CALLERS`](crate::CALLERS). The source is read to its end, or up to one byte more
-/// than a script may have. It takes memory: the bytes while they are read, and room for the names, the batches and the
-/// lines of the callers; a batch of one edit takes room for one.
+/// The script that the source gives, for callers from 1 to `readers`, which is 1 to [`CALLERS`](crate::CALLERS). The source
+/// is read to its end, or up to one byte more than a script may have. It takes memory: the bytes while they are read, and
+/// room for the names, the batches and the lines of the callers; a batch of one edit takes room for one.
 ///
 /// The cost grows with the bytes, and with one hash a name; no line is looked at twice.
 ///
