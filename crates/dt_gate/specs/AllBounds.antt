@@ -8,6 +8,7 @@ use Rattle.dt_gate.specs.declared.gate.Stage.TheVariants.{In}
 use Rattle.dt_gate.specs.Gate.{Bounds, IsLive, root_at, seat_at}
 use Rattle.dt_gate.specs.Runs.{InRange, IsReached, ReachedIsSound, FreshIsReached, RunsGoOn}
 use Rattle.dt_gate.specs.Readers.{ReadsAreFrozen}
+use Rattle.dt_gate.specs.Sweeps.{SweepsLeaveRoom}
 use Rattle.dt_gate.specs.Words.{EachEventIsOneAccess, CountsAlwaysFit, record_word, words_of}
 
 module _ (M : Type 0) {I : Type 0} (shows : Reading → List I → Type 0) (bounds : Bounds) where
@@ -18,7 +19,7 @@ module _ (M : Type 0) {I : Type 0} (shows : Reading → List I → Type 0) (boun
 
 -- for all bounds in their ranges, and a meaning by which the empty image shows the empty list:
 -- runs begin at the fresh gate and go on by allowed events, each gate that is reached is sound, each event is one access,
--- counts fit, a reader reads each word as it found it, and is inside a live root
+-- counts fit, a reader reads each word as it found it, and is inside a live root, and sweeps leave room
 pub record LawsOfRuns (M : Type 0) {I : Type 0} (shows : Reading → List I → Type 0) : Type 0 where
   pub begins : (bounds : Bounds) → FreshIsReached M shows bounds
   pub goes_on : (bounds : Bounds) → RunsGoOn M shows bounds
@@ -27,3 +28,4 @@ pub record LawsOfRuns (M : Type 0) {I : Type 0} (shows : Reading → List I → 
   pub counts : (bounds : Bounds) → InRange bounds → shows blank [] → CountsAlwaysFit M shows bounds
   pub reads : (bounds : Bounds) → InRange bounds → shows blank [] → ReadsAreFrozen M shows bounds
   pub inside : (bounds : Bounds) → InRange bounds → shows blank [] → InsideIsLive M shows bounds
+  pub room : (bounds : Bounds) → InRange bounds → shows blank [] → SweepsLeaveRoom M shows bounds

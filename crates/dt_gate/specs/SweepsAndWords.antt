@@ -8,7 +8,8 @@ use Rattle.dt_gate.specs.declared.event.ReadWord.TheVariants as read
 use Rattle.dt_gate.specs.declared.event.RecordWord.TheVariants.{Top}
 use Rattle.dt_gate.specs.declared.gate.Author.{Author}
 use Rattle.dt_gate.specs.declared.gate.Root.{Root}
-use Rattle.dt_gate.specs.declared.gate.Standing.TheVariants.{Free}
+use Rattle.dt_gate.specs.declared.gate.Standing.{Standing}
+use Rattle.dt_gate.specs.declared.gate.Standing.TheVariants.{Free, Now, Old}
 use Rattle.dt_gate.specs.Gate.{blank_root, root_at, is_old, stands_in}
 use Rattle.dt_gate.specs.Sweeps.{after_polls, MayBeginASweep, IsOfASweep, SweepLeads, LeavesRoom}
 use Rattle.dt_gate.specs.Words.{words_of, access_of, accessed, found}
@@ -108,8 +109,33 @@ a_sweep_that_polls_twice sweep = let is : ◌≡◌ {A = Bool} true false = swee
 a_sweep_that_polls_the_current_root : ¬ IsOfASweep busy_author ((0, 1) ∷ (1, 1) ∷ [])
 a_sweep_that_polls_the_current_root sweep = let is : ◌≡◌ {A = Bool} false true = sweep.old 1 refl in cc
 
+-- two roots are still old, both held, as many as readers were out, and root 2 is free
+a_sweep_that_leaves_room : LeavesRoom two (after_polls three_old reads)
+a_sweep_that_leaves_room = let two_of_two : 2 ≤ 2 = omega arith in
+    record { still_old = two_of_two; held = two_of_two; count = two_of_two; some_free = (2, omega arith, refl) }
+
 more_old_roots_than_held : ¬ LeavesRoom two three_old
 more_old_roots_than_held room = let is : 3 ≤ 0 = room.still_old in absurd (omega (arith, is))
+
+more_held_than_readers_were_out : ¬ LeavesRoom two (record busy_author { held = 0 ∷ 2 ∷ []; sweep = 1 })
+more_held_than_readers_were_out room = let is : 2 ≤ 1 = room.held in absurd (omega (arith, is))
+
+more_readers_out_than_there_are : ¬ LeavesRoom two (record busy_author { sweep = 3 })
+more_readers_out_than_there_are room = let is : 3 ≤ 2 = room.count in absurd (omega (arith, is))
+
+-- each of the four roots is old or current, and all else holds
+abbrev none_free : Author ℕ ℕ
+none_free = record busy_author { roots = old_root ∷ current_root ∷ old_root ∷ current_root ∷ []; held = 0 ∷ 2 ∷ []; sweep = 2 }
+
+no_root_is_free : ¬ LeavesRoom two none_free
+no_root_is_free room = none room.some_free.0 room.some_free.1 room.some_free.2
+  where
+    none : (root : ℕ) → root < 4 → ¬ ((root_at none_free root).standing ≡ Free)
+    none zero below is = let never : ◌≡◌ {A = Standing} (Old 2) Free = is in cc
+    none (suc zero) below is = let never : ◌≡◌ {A = Standing} Now Free = is in cc
+    none (suc (suc zero)) below is = let never : ◌≡◌ {A = Standing} (Old 2) Free = is in cc
+    none (suc (suc (suc zero))) below is = let never : ◌≡◌ {A = Standing} Now Free = is in cc
+    none (suc (suc (suc (suc root)))) below is = absurd (omega (arith, below))
 
 -- ---- words
 

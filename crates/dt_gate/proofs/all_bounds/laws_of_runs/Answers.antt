@@ -4,6 +4,7 @@ use Rattle.dt_gate.proofs.Running.{reached_is_sound, reached_is_kept, reached_mo
 use Rattle.dt_gate.proofs.Accesses.{is_one_access, counts_fit}
 use Rattle.dt_gate.proofs.ReaderLaws.{read_is_frozen}
 use Rattle.dt_gate.proofs.InsideRoots.{inside_a_live_root}
+use Rattle.dt_gate.proofs.Room.{room}
 use Rattle.dt_gate.proofs.all_bounds.laws_of_runs.Goals as goal
 
 pub returns : goal.returns
@@ -20,4 +21,6 @@ returns g c = record {
       is (subst (IsFrozenWord word) is allowed);
   inside = λ bounds range empty gate seat root frozen reached. inside_a_live_root g.M.Meaning.shows bounds range gate
       (reached_is_kept g.M.Meaning.shows bounds range empty c.reached_pages_decide.ensures c.page_zero_is_empty.ensures gate reached) seat root frozen;
+  room = λ bounds range empty gate reached. room g.M.Meaning.shows bounds gate
+      (reached_is_kept g.M.Meaning.shows bounds range empty c.reached_pages_decide.ensures c.page_zero_is_empty.ensures gate reached);
 }
