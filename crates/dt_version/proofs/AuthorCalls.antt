@@ -1,5 +1,6 @@
 -- What the author's step makes of its record.
 use Rattle.std.proofs.Common.{◌≡◌, ℕ, ◌<◌, ◌≤◌, ◌+◌, ◌*◌, ◌/◌, ◌%◌, ◌^◌, List, [], length, sym, ap, subst, ◌∙◌, arith}
+use mathlib.Core.List.{IsPrefix}
 use Rattle.atomic_table.specs.Table.{Step, Me}
 use Rattle.dt_pages.specs.Reading.{Reading, page_words}
 use Rattle.dt_gate.specs.declared.event.Event.{Event}
@@ -9,22 +10,25 @@ use Rattle.dt_gate.specs.declared.event.RecordWord.{RecordWord}
 use Rattle.dt_gate.specs.declared.event.RecordWord.TheVariants.{Exits, Version, Top}
 use Rattle.dt_gate.specs.declared.gate.Author.{Author}
 use Rattle.dt_gate.specs.declared.gate.Gate.{Gate}
+use Rattle.dt_gate.specs.declared.gate.Seat.{Seat}
 use Rattle.dt_gate.specs.declared.gate.Standing.{Standing}
 use Rattle.dt_gate.specs.declared.gate.Standing.TheVariants.{Free, Now, Old}
 use Rattle.dt_gate.specs.Gate.{IsLive, IsOld, root_at, exits_at}
-use Rattle.dt_gate.specs.Author.{after_fill, after_lay, after_publish, after_poll}
+use Rattle.dt_gate.specs.Author.{after_fill, after_lay, after_publish, after_poll, after_hear, after_seat_back}
 use Rattle.dt_gate.specs.Events.{IsAllowed, step}
 use Rattle.dt_gate.specs.Sound.{BothArePrefixes, WornWasTaken}
+use Rattle.dt_gate.specs.Sweeps.{AllOldAreHeld, LeavesRoom}
 use Rattle.dt_gate.specs.Words.{record_word, page_word, packed, Finds}
 use Rattle.dt_gate.specs.AllBounds.{LawsOfRuns}
 use Rattle.dt_version.specs.declared.view.Size.{Size}
 use Rattle.dt_version.specs.declared.view.View.{View}
 use Rattle.dt_version.specs.declared.view.View.TheVariants as view
 use Rattle.dt_version.specs.Limits.{bounds}
-use Rattle.dt_version.specs.Views.{author_shown, size_shown, IsAuthorOf}
+use Rattle.dt_version.specs.Views.{author_shown, size_shown, with_history_of, IsAuthorOf}
 use Rattle.dt_version.specs.Rule.{IsRunning}
 use Rattle.dt_version.specs.Told.{AuthorIsTold, Filled, LaidWord, Published, Polled, AuthorHeard}
 use Rattle.dt_version.specs.AuthorCalls.{IsPoll}
+use Rattle.dt_version.proofs.Lists.{longer_whole}
 use Rattle.dt_version.proofs.Steps.{runs_on}
 use Rattle.dt_version.proofs.AuthorSteps.{author_is_of}
 use Rattle.dt_version.proofs.Calls.{live_is_there}
@@ -136,6 +140,7 @@ module _ {M I : Type 0} (shows : Reading → List I → Type 0) (laws : LawsOfRu
   pub record PollIs (size : Size) (author : Author M I) (root : ℕ) (number : ℕ) (after : Me ℕ (View M I)) : Type 0 where
     pub kept : AuthorIsKept size (after_poll author root number) after
     pub fits : number < 2 ^ 32
+    pub room : AllOldAreHeld (author_shown after.0) → LeavesRoom (bounds size) (author_shown after.0)
     pub bounds : IsPoll size.readers root author (author_shown after.0) number
 
   pub poll_is : (size : Size) (author : Author M I) (at : Step ℕ) (root : ℕ) (me after : Me ℕ (View M I)) (number : ℕ) → me ≡ (view.Author size author, [])
@@ -161,6 +166,8 @@ module _ {M I : Type 0} (shows : Reading → List I → Type 0) (laws : LawsOfRu
               subst (λ (a : Author M I). length a.held ≤ a.sweep) (sym shown) (omega (arith, held));
           sweep = subst (λ (a : Author M I). a.sweep ≤ size.readers) (sym shown) then.sweep_is_bounded.count;
         };
+        room = λ held. subst (LeavesRoom (bounds size)) (sym shown)
+            (laws.room (bounds size) running.in_range running.empty (step (bounds size) told.gate (Poll play.root)) running.reached (subst AllOldAreHeld shown held));
       }
 
   -- what the author is told after a seat was given back: both histories are prefixes, and where no reader is out worn looks are accounted for
@@ -178,3 +185,12 @@ module _ {M I : Type 0} (shows : Reading → List I → Type 0) (laws : LawsOfRu
         prefixes = subst (λ (a : Author M I). BothArePrefixes a.joined a.history) told.author_is sound.histories_and_counts.prefixes.joined_by_the_author;
         worn = subst WornWasTaken told.author_is sound.histories_and_counts.worn_taken;
       }
+
+  -- where the author's history stayed as it was, the seat or note that came back has seen no more
+  pub kept_is_heard : (author : Author M I) (history : List I) → IsPrefix history author.history
+      → with_history_of author (after_hear author history) ≡ after_hear author history
+  kept_is_heard author history p = λ i. record (after_hear author history) { history = sym (longer_whole author.history history p) i }
+
+  pub kept_is_back : (author : Author M I) (seat : Seat M I) → IsPrefix seat.history author.history
+      → with_history_of author (after_seat_back author seat) ≡ after_seat_back author seat
+  kept_is_back author seat p = λ i. record (after_seat_back author seat) { history = sym (longer_whole author.history seat.history p) i }

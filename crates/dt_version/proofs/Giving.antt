@@ -15,7 +15,7 @@ use Rattle.dt_gate.specs.declared.gate.Seat.{Seat}
 use Rattle.dt_gate.specs.declared.gate.Stage.{Stage}
 use Rattle.dt_gate.specs.declared.gate.Stage.TheVariants.{Out, Near, In, Note, Spent}
 use Rattle.dt_gate.specs.Gate.{seat_at, spent}
-use Rattle.dt_gate.specs.Author.{after_seat_out, after_seat_back, after_hear}
+use Rattle.dt_gate.specs.Author.{longer, after_seat_out, after_seat_back, after_hear}
 use Rattle.dt_gate.specs.Seats.{IsReader, given, after_hearing}
 use Rattle.dt_gate.specs.Events.{IsAllowed, step}
 use Rattle.dt_gate.specs.Words.{accessed, access_of, words_of}
@@ -24,10 +24,10 @@ use Rattle.dt_version.specs.declared.view.Size.{Size}
 use Rattle.dt_version.specs.declared.view.View.{View}
 use Rattle.dt_version.specs.declared.view.View.TheVariants as view
 use Rattle.dt_version.specs.Limits.{bounds}
-use Rattle.dt_version.specs.Views.{view_at, view_of, views_of, after_out, given_by, with_seat_back, with_note_back}
+use Rattle.dt_version.specs.Views.{view_at, view_of, views_of, after_out, given_by, with_history_of, with_seat_back, with_note_back}
 use Rattle.dt_version.specs.Rule.{IsRunning, Holds}
 use Rattle.dt_version.specs.Laws.{IsAt, cut, joined, GoesBy, GoesByASeat}
-use Rattle.dt_version.proofs.Lists.{map-set}
+use Rattle.dt_version.proofs.Lists.{map-set, longer_whole}
 use Rattle.dt_version.proofs.Seats.{reader_found}
 use Rattle.dt_version.proofs.AuthorSteps.{author_found}
 use Rattle.dt_version.proofs.Steps.{one_event}
@@ -131,11 +131,28 @@ module _ {M I : Type 0} (shows : Reading → List I → Type 0) (laws : LawsOfRu
       let by = reader_note_goes_out gate state id seat (record { running = running; shown = shown; at = at }) reads in
       holds_after gate (NoteOut (holder.Reader by.seat)) (cut state id (view.Reader size seat) (given_by Note (view.Reader size seat))) by.goes)
 
+  -- the author's history is the longest
+  longest : (gate : Gate M I) (k : ℕ) → IsRunning shows size gate → longer gate.author.history (seat_at gate k).history ≡ gate.author.history
+  longest gate k running = let sound = laws.sound (bounds size) running.in_range running.empty gate running.reached in
+      longer_whole gate.author.history (seat_at gate k).history (sound.histories_and_counts.prefixes.of_a_seat k)
+
+  seat_then : (gate : Gate M I) (k : ℕ) (author : Author M I) (seat : Seat M I) → IsRunning shows size gate → gate.author ≡ author → seat_at gate k ≡ seat
+      → after_seat_back gate.author (seat_at gate k) ≡ with_history_of author (after_seat_back author seat)
+  seat_then gate k author seat running author_is seat_is =
+      (λ i. record (after_seat_back gate.author (seat_at gate k)) { history = longest gate k running i })
+      ∙ (λ i. with_history_of (author_is i) (after_seat_back (author_is i) (seat_is i)))
+
+  note_then : (gate : Gate M I) (k : ℕ) (author : Author M I) (note : Seat M I) → IsRunning shows size gate → gate.author ≡ author → seat_at gate k ≡ note
+      → after_hear gate.author (seat_at gate k).history ≡ with_history_of author (after_hear author note.history)
+  note_then gate k author note running author_is note_is =
+      (λ i. record (after_hear gate.author (seat_at gate k).history) { history = longest gate k running i })
+      ∙ (λ i. with_history_of (author_is i) (after_hear (author_is i) (note_is i).history))
+
   -- a seat is given back to the author: it is one of the seats, and its view is gone
   module _ (own : Size) (id other : ℕ) (author : Author M I) (seat : Seat M I) (next : Author M I) (event : ℕ → Event M I)
       (may : (gate : Gate M I) (k : ℕ) → gate.author ≡ author → seat_at gate k ≡ seat → IsAllowed shows (bounds size) gate (event k))
       (loads : (gate : Gate M I) (k : ℕ) → access_of (bounds size) gate (event k) ≡ Load 0)
-      (author_then : (gate : Gate M I) (k : ℕ) → gate.author ≡ author → seat_at gate k ≡ seat → (step (bounds size) gate (event k)).author ≡ next)
+      (author_then : (gate : Gate M I) (k : ℕ) → IsRunning shows size gate → gate.author ≡ author → seat_at gate k ≡ seat → (step (bounds size) gate (event k)).author ≡ next)
       (seats_then : (gate : Gate M I) (k : ℕ) → (step (bounds size) gate (event k)).seats ≡ set gate.seats k spent) where
     author_goes : (gate : Gate M I) (state : State ℕ (View M I)) → IsAt shows size gate state id (view.Author size author)
         → get_elem? (set state.views id (view.Author size next)) other ≡ some (view.Reader own seat)
@@ -154,7 +171,7 @@ module _ {M I : Type 0} (shows : Reading → List I → Type 0) (laws : LawsOfRu
               (ap (λ vs. set vs other view.Gone) changed
               ∙ (ap (λ j. set (view.Author size next ∷ map (view_of size) gate.seats) j view.Gone) found.behind
               ∙ (ap (λ vs. view.Author size next ∷ vs) (sym (map-set (view_of size) gate.seats k spent))
-              ∙ (λ i. view.Author size (sym (author_then gate k here.author_is found.seat_is) i) ∷ map (view_of size) (sym (seats_then gate k) i)))));
+              ∙ (λ i. view.Author size (sym (author_then gate k mine.running here.author_is found.seat_is) i) ∷ map (view_of size) (sym (seats_then gate k) i)))));
         }
 
     author_takes : Joins (Holds shows size) id (view.Author size author) other (view.Reader own seat) (view.Author size next) view.Gone
@@ -177,10 +194,10 @@ module _ {M I : Type 0} (shows : Reading → List I → Type 0) (laws : LawsOfRu
   pub seat_comes_back : (gate : Gate M I) (state : State ℕ (View M I)) (id other : ℕ) (author : Author M I) (seat : Seat M I)
       → IsAt shows size gate state id (view.Author size author) → get_elem? state.views other ≡ some (view.Reader size seat) → seat.stage ≡ Out
       → GoesByASeat shows size gate other SeatBack (joined state id (with_seat_back (view.Author size author) (view.Reader size seat)) other)
-  seat_comes_back gate state id other author seat mine his out = author_goes_on size id other author seat (after_seat_back author seat) SeatBack
+  seat_comes_back gate state id other author seat mine his out = author_goes_on size id other author seat (with_history_of author (after_seat_back author seat)) SeatBack
       (λ gate k author_is seat_is. ap (λ (s : Seat M I). s.stage) seat_is ∙ out)
       (λ gate k. refl)
-      (λ gate k author_is seat_is i. after_seat_back (author_is i) (seat_is i))
+      (λ gate k. seat_then gate k author seat)
       (λ gate k. refl)
       gate state mine his
 
@@ -189,19 +206,19 @@ module _ {M I : Type 0} (shows : Reading → List I → Type 0) (laws : LawsOfRu
   takes_a_seat own id other author seat me him me_is him_is out =
       subst (λ v. Joins (Holds shows size) id v other him (with_seat_back v him) view.Gone) (sym me_is)
       (subst (λ w. Joins (Holds shows size) id (view.Author size author) other w (with_seat_back (view.Author size author) w) view.Gone) (sym him_is)
-      (author_takes own id other author seat (after_seat_back author seat) SeatBack
+      (author_takes own id other author seat (with_history_of author (after_seat_back author seat)) SeatBack
       (λ gate k author_is seat_is. ap (λ (s : Seat M I). s.stage) seat_is ∙ out)
       (λ gate k. refl)
-      (λ gate k author_is seat_is i. after_seat_back (author_is i) (seat_is i))
+      (λ gate k. seat_then gate k author seat)
       (λ gate k. refl)))
 
   pub note_comes_back : (gate : Gate M I) (state : State ℕ (View M I)) (id other : ℕ) (author : Author M I) (note : Seat M I)
       → IsAt shows size gate state id (view.Author size author) → get_elem? state.views other ≡ some (view.Reader size note) → note.stage ≡ Note
       → GoesByASeat shows size gate other (λ k. NoteBack k holder.Author) (joined state id (with_note_back (view.Author size author) (view.Reader size note)) other)
-  note_comes_back gate state id other author note mine his is_note = author_goes_on size id other author note (after_hear author note.history) (λ k. NoteBack k holder.Author)
+  note_comes_back gate state id other author note mine his is_note = author_goes_on size id other author note (with_history_of author (after_hear author note.history)) (λ k. NoteBack k holder.Author)
       (λ gate k author_is seat_is. (ap (λ (s : Seat M I). s.stage) seat_is ∙ is_note, tt))
       (λ gate k. refl)
-      (λ gate k author_is seat_is i. after_hear (author_is i) (seat_is i).history)
+      (λ gate k. note_then gate k author note)
       (λ gate k. refl)
       gate state mine his
 
@@ -210,10 +227,10 @@ module _ {M I : Type 0} (shows : Reading → List I → Type 0) (laws : LawsOfRu
   takes_a_note own id other author seat me him me_is him_is note =
       subst (λ v. Joins (Holds shows size) id v other him (with_note_back v him) view.Gone) (sym me_is)
       (subst (λ w. Joins (Holds shows size) id (view.Author size author) other w (with_note_back (view.Author size author) w) view.Gone) (sym him_is)
-      (author_takes own id other author seat (after_hear author seat.history) (λ k. NoteBack k holder.Author)
+      (author_takes own id other author seat (with_history_of author (after_hear author seat.history)) (λ k. NoteBack k holder.Author)
       (λ gate k author_is seat_is. (ap (λ (s : Seat M I). s.stage) seat_is ∙ note, tt))
       (λ gate k. refl)
-      (λ gate k author_is seat_is i. after_hear (author_is i) (seat_is i).history)
+      (λ gate k. note_then gate k author seat)
       (λ gate k. refl)))
 
   -- a note is given back to a reader

@@ -146,14 +146,18 @@ module _ {M I : Type 0} where
   given_by stage (view.Reader size seat) = view.Reader size (given stage seat.history)
   given_by stage view.Gone = view.Gone
 
-  -- a reader seat is given back to the author
+  -- the author with the history that it had
+  abbrev pub with_history_of : Author M I → Author M I → Author M I
+  with_history_of author next = record next { history = author.history }
+
+  -- a reader seat is given back to the author, whose history stays: no one has seen more
   abbrev pub with_seat_back : View M I → View M I → View M I
-  with_seat_back (view.Author size author) other = view.Author size (after_seat_back author (seat_shown other))
+  with_seat_back (view.Author size author) other = view.Author size (with_history_of author (after_seat_back author (seat_shown other)))
   with_seat_back (view.Reader size seat) other = view.Reader size seat
   with_seat_back view.Gone other = view.Gone
 
-  -- a note is given back to who takes it
+  -- a note is given back to who takes it; an author's history stays here too
   abbrev pub with_note_back : View M I → View M I → View M I
-  with_note_back (view.Author size author) other = view.Author size (after_hear author (seat_shown other).history)
+  with_note_back (view.Author size author) other = view.Author size (with_history_of author (after_hear author (seat_shown other).history))
   with_note_back (view.Reader size seat) other = view.Reader size (after_hearing seat (seat_shown other).history)
   with_note_back view.Gone other = view.Gone

@@ -50,6 +50,7 @@ impl<'s, M: Meaning> Author<'s, M> {
     ghost use Rattle.dt_gate.specs.Author.{after_seat_out, after_seat_back, after_hear};
     ghost use Rattle.dt_gate.specs.Seats.{given};
     ghost use Rattle.dt_gate.specs.Sound.{WornWasTaken};
+    ghost use Rattle.dt_gate.specs.Sweeps.{AllOldAreHeld, LeavesRoom};
     ghost use Rattle.dt_version.specs.Limits.{bounds};
     ghost use Rattle.dt_version.specs.Views.{seat_of};
     ghost use Rattle.dt_version.specs.AuthorCalls.{laid_whole, IsPoll};
@@ -163,9 +164,11 @@ impl<'s, M: Meaning> Author<'s, M> {
     }
 
     /// Reads the exits of an old root: one load. The root is free where they are its final entries, and else it is found held.
+    /// Where every old root is then found held, as after a sweep, some root is free.
     pub fn poll(&mut self, root: u16) -> u32
         requires { IsOld (root_at (author_of self.old.place) root).standing }
         ensures polled { author_of self.new.place ≡ after_poll (author_of self.old.place) root result }
+        ensures room { AllOldAreHeld (author_of self.new.place) → LeavesRoom (bounds self.old.store.now.table.shared.key) (author_of self.new.place) }
         ensures bounds { IsPoll self.old.store.now.limits.readers root (author_of self.old.place) (author_of self.new.place) result }
         ensures store { self.new.store ≡ self.old.store }
     {
@@ -199,12 +202,13 @@ impl<'s, M: Meaning> Author<'s, M> {
     }
 
     /// Takes a reader seat back: two loads of the version word. What it entered and its worn looks go to the author's lists, and its
-    /// history is a prefix of the author's. Where then no reader is out, the number of each worn look is at most how often its version
-    /// was entered.
+    /// history is a prefix of the author's, which stays as it was. Where then no reader is out, the number of each worn look is at
+    /// most how often its version was entered.
     pub fn seat_back(&mut self, seat: ReaderSeat<'s, M>)
         requires out { (seat_of seat.place).stage ≡ Out }
         requires of { seat.place.table_id ≡ self.old.place.table_id }
         ensures back { author_of self.new.place ≡ after_seat_back (author_of self.old.place) (seat_of seat.entry.place) }
+        ensures history { (author_of self.new.place).history ≡ (author_of self.old.place).history }
         ensures mine { IsPrefix (author_of self.old.place).history (author_of self.new.place).history }
         ensures heard { IsPrefix (seat_of seat.entry.place).history (author_of self.new.place).history }
         ensures worn { WornWasTaken (author_of self.new.place) }
@@ -245,10 +249,11 @@ impl<'s, M: Meaning> Author<'s, M> {
         }
     }
 
-    /// Takes a note: two loads of the version word. Its history is a prefix of the author's.
+    /// Takes a note: two loads of the version word. Its history is a prefix of the author's, which stays as it was.
     pub fn hear(&mut self, note: Note<'s, M>)
         requires { note.place.table_id ≡ self.old.place.table_id }
         ensures heard { author_of self.new.place ≡ after_hear (author_of self.old.place) (seat_of note.entry.place).history }
+        ensures history { (author_of self.new.place).history ≡ (author_of self.old.place).history }
         ensures mine { IsPrefix (author_of self.old.place).history (author_of self.new.place).history }
         ensures its { IsPrefix (seat_of note.entry.place).history (author_of self.new.place).history }
         ensures store { self.new.store ≡ self.old.store }

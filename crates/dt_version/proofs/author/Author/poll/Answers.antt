@@ -43,5 +43,6 @@ returns g c = let me = c.args.self.now in
     record {
       polled = poll.kept.is;
       bounds = subst (λ n. IsPoll n c.args.root (author_of me.place) (author_of c.load.new.seat) c.load.result) readers poll.bounds;
+      room = poll.room;
       store = refl;
     }

@@ -1,13 +1,13 @@
-use Rattle.std.proofs.Common.{subst, sym, refl, ◌∙◌, arith}
+use Rattle.std.proofs.Common.{subst, sym, refl, ap, ◌∙◌, arith}
 use mathlib.Core.Option.{none}
 use Rattle.atomic_table.specs.Table.{step}
 use Rattle.dt_version.specs.Views.{author_of}
 use mathlib.Core.List.{IsPrefix}
 use Rattle.dt_gate.specs.Sound.{WornWasTaken}
 use Rattle.dt_gate.specs.Author.{after_seat_back}
-use Rattle.dt_version.specs.Views.{with_seat_back, seat_of}
+use Rattle.dt_version.specs.Views.{with_history_of, with_seat_back, seat_of}
 use Rattle.dt_version.proofs.AuthorSteps.{author_view, hears}
-use Rattle.dt_version.proofs.AuthorCalls.{hear_is}
+use Rattle.dt_version.proofs.AuthorCalls.{hear_is, kept_is_back}
 use Rattle.dt_version.specs.Told.{AuthorHeard}
 use Rattle.dt_version.proofs.Seats.{reader_view}
 use Rattle.dt_version.proofs.Giving.{takes_a_seat}
@@ -34,7 +34,7 @@ load-requires g c = let me = c.args.self.now in
     let is = c.join_seat.ensures.2 ∙ (λ i. (with_seat_back (author_view key me.place.me.0 me.author i) (reader_view own him.place.me.0 him.reader i), me.no_slot i)) in (
       c.join_seat.ensures.0 ∙ me.at,
       (let words = me.store.now.words in omega (arith, words)),
-      hears g.M.Meaning.shows c.laws_of_runs.ensures key _ _ (after_seat_back (author_of me.place) (seat_of him.place)) c.join_seat.new.seat.me is
+      hears g.M.Meaning.shows c.laws_of_runs.ensures key _ _ (with_history_of (author_of me.place) (after_seat_back (author_of me.place) (seat_of him.place))) c.join_seat.new.seat.me is
           (AuthorHeard g.M.Meaning.shows (step me.store.now.table.shared.table_id.slots 0 0 0 none) c.join_seat.new.seat.me)
           (λ number after told slots. record { slots = slots; size = key; told = told }),
     )
@@ -45,7 +45,7 @@ invariant_of-self g c = let me = c.args.self.now in
     let key = me.store.now.table.shared.key in
     let own = him.store.now.table.shared.key in
     let is = c.join_seat.ensures.2 ∙ (λ i. (with_seat_back (author_view key me.place.me.0 me.author i) (reader_view own him.place.me.0 him.reader i), me.no_slot i)) in
-    let kept = (hear_is g.M.Meaning.shows c.laws_of_runs.ensures key (after_seat_back (author_of me.place) (seat_of him.place)) _ c.join_seat.new.seat.me c.load.new.seat.me c.load.result is c.load.ensures.2).kept in
+    let kept = (hear_is g.M.Meaning.shows c.laws_of_runs.ensures key (with_history_of (author_of me.place) (after_seat_back (author_of me.place) (seat_of him.place))) _ c.join_seat.new.seat.me c.load.new.seat.me c.load.result is c.load.ensures.2).kept in
     record { at = c.load.ensures.0 ∙ (c.join_seat.ensures.0 ∙ me.at); no_slot = kept.no_slot; author = kept.author; sized = kept.sized }
 
 pub returns : goal.returns
@@ -54,8 +54,9 @@ returns g c = let me = c.args.self.now in
     let key = me.store.now.table.shared.key in
     let own = him.store.now.table.shared.key in
     let is = c.join_seat.ensures.2 ∙ (λ i. (with_seat_back (author_view key me.place.me.0 me.author i) (reader_view own him.place.me.0 him.reader i), me.no_slot i)) in
-    let heard = hear_is g.M.Meaning.shows c.laws_of_runs.ensures key (after_seat_back (author_of me.place) (seat_of him.place)) _ c.join_seat.new.seat.me c.load.new.seat.me c.load.result is c.load.ensures.2 in record {
-      back = heard.kept.is;
+    let heard = hear_is g.M.Meaning.shows c.laws_of_runs.ensures key (with_history_of (author_of me.place) (after_seat_back (author_of me.place) (seat_of him.place))) _ c.join_seat.new.seat.me c.load.new.seat.me c.load.result is c.load.ensures.2 in record {
+      back = heard.kept.is ∙ kept_is_back g.M.Meaning.shows c.laws_of_runs.ensures (author_of me.place) (seat_of him.place) heard.prefixes.1;
+      history = ap (λ a. a.history) heard.kept.is;
       mine = subst (λ a. IsPrefix (author_of me.place).history a.history) (sym heard.kept.is) heard.prefixes.0;
       heard = subst (λ a. IsPrefix (seat_of him.place).history a.history) (sym heard.kept.is) heard.prefixes.1;
       worn = subst WornWasTaken (sym heard.kept.is) heard.worn;
