@@ -12,7 +12,7 @@ use Rattle.dt_placing.specs.Rows.{single}
 use Rattle.dt_placing.specs.Placing.{cell_at, owns, tag_of, placing}
 
 -- a reading by the words that are set
-abbrev words : List (ℕ × ℕ) → Reading
+abbrev pub words : List (ℕ × ℕ) → Reading
 words [] address = 0
 words (set ∷ sets) address = if address == set.0 then set.1 else words sets address
 
@@ -41,7 +41,7 @@ the_second_moves : fits Colours (rows_use Colours (record { place = 0; indexes =
 the_second_moves = refl
 
 -- the words after
-abbrev two_colours : Reading
+abbrev pub two_colours : Reading
 two_colours = words ((0, 1) ∷ (1, 1) ∷ (2, 1) ∷ (4096, 1) ∷ (4097, 1) ∷ (8192, 1) ∷ (8193, 2)
     ∷ (16777216, 4294967298) ∷ (16777218, 4294967298) ∷ (16779265, 8589934595) ∷ (16779266, 8589934595) ∷ [])
 
@@ -76,7 +76,7 @@ at_the_third : fits Displacements (rows_use Displacements (record { place = 1; i
 at_the_third = refl
 
 -- the words after
-abbrev two_rows : Reading
+abbrev pub two_rows : Reading
 two_rows = words ((0, 1) ∷ (1, 1) ∷ (4096, 1) ∷ (4097, 1) ∷ (8192, 3) ∷ (8193, 2)
     ∷ (16777217, 8589934595) ∷ (16777218, 4294967298) ∷ (16777219, 4294967300) ∷ [])
 
