@@ -114,22 +114,50 @@ fn push_drawn(
     Ok(())
 }
 
+// The class comes last.
+fn push_class(
+    alloc: Global,
+    chance: &mut Chance,
+    trial: &mut Program,
+    batch: &mut Batch,
+    class: ClassNo,
+) -> Result<(), Fault> {
+    let edit = draw_below(alloc, chance, trial, class)?;
+    is_applied(trial, &edit)?;
+    put(batch, edit)
+}
+
+// All classes come last.
+fn push_classes(
+    alloc: Global,
+    chance: &mut Chance,
+    trial: &mut Program,
+    batch: &mut Batch,
+) -> Result<(), Fault> {
+    for number in CLASS_NUMBERS {
+        let class = ClassNo::new(number).unwrap_or_default();
+        push_class(alloc, chance, trial, batch, class)?;
+    }
+    Ok(())
+}
+
+// All selectors come last.
+fn push_selectors(chance: &mut Chance, batch: &mut Batch) -> Result<(), Fault> {
+    for number in SELECTOR_NUMBERS {
+        let selector = SelNo::new(number).unwrap_or_default();
+        if let Some(edit) = draw_arity(chance, selector) {
+            put(batch, edit)?;
+        }
+    }
+    Ok(())
+}
+
 /// The first batch of a program: all classes and all selectors.
 pub fn first_batch(alloc: Global, chance: &mut Chance) -> Result<Batch, Fault> {
     let mut trial = Program::new(alloc)?;
     let mut batch = Batch::new(alloc);
-    for number in CLASS_NUMBERS {
-        let class = ClassNo::new(number).unwrap_or_default();
-        let edit = draw_below(alloc, chance, &trial, class)?;
-        is_applied(&mut trial, &edit)?;
-        put(&mut batch, edit)?;
-    }
-    for number in SELECTOR_NUMBERS {
-        let selector = SelNo::new(number).unwrap_or_default();
-        if let Some(edit) = draw_arity(chance, selector) {
-            put(&mut batch, edit)?;
-        }
-    }
+    push_classes(alloc, chance, &mut trial, &mut batch)?;
+    push_selectors(chance, &mut batch)?;
     Ok(batch)
 }
 
