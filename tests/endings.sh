@@ -191,14 +191,14 @@ if [ -x "$bench" ]; then
     printf '%s\n' 'usage: dispatch_bench' '       dispatch_bench bench N C S' \
         '       dispatch_bench occupancy N C S' '       dispatch_bench graph chain|star|diamonds C' '       dispatch_bench selector D' >"$folder/usage"
     for words in bench "bench 1 100" "bench 1 100 300 4" "bench -1 100 300" "bench +1 100 300" \
-        "bench 18446744073709551616 100 300" "bench 1 1 300" "bench 1 2049 300" "bench 1 100 0" "bench 1 100 4097" \
+        "bench 4294967296 100 300" "bench 1 1 300" "bench 1 2049 300" "bench 1 100 0" "bench 1 100 4097" \
         "bench 1 65636 300" "bench 1 x 300" "Bench 1 100 300" "occupancy 1 100" "occupancy 1 1 300" "occupancy x 100 300" "graph chain" "graph chain 1" "graph chain 2049" selector "selector 1 2" "selector 3601" "selector x" \
         "graph ring 100" "graph chain 100 1"; do
         # shellcheck disable=SC2086
         ends "dispatch_bench $words" 2 "$folder/usage" /dev/null $words
     done
     ends "dispatch_bench, an empty word" 2 "$folder/usage" /dev/null bench 1 "" 100
-    for words in "bench 0 2 1" "bench 18446744073709551615 2 1" "occupancy 0 2 1" "graph chain 2" "graph star 3" "graph diamonds 40" \
+    for words in "bench 0 2 1" "bench 4294967295 2 1" "occupancy 0 2 1" "graph chain 2" "graph star 3" "graph diamonds 40" \
         "selector 0" "selector 3"; do
         status=0
         # shellcheck disable=SC2086

@@ -1,12 +1,14 @@
-ghost use Rattle.std.specs.Prelude.{◌<◌, ◌^◌};
+ghost use Rattle.std.specs.Prelude.{◌<◌};
 
-use crate::draws::Draws;
-use crate::generator::{BATCH, definition_count, draw_class_edit, put};
+use crate::drawing::draw_class;
+use crate::edit_kind::EditKind;
+use crate::generated::Generated;
 use crate::size::Size;
-use crate::work::{apply_all, try_edit};
+use crate::work::apply_all;
 use dt_definitions::{
-    Batch, BodyNo, CLASSES, ClassGraph, ClassNo, Edit, NoMemory, Parents, Program, SelNo, Tuple,
+    Batch, BodyNo, ClassGraph, ClassNo, Edit, NoMemory, Parents, Program, SelNo, Tuple,
 };
+use dt_trials::{Chance, Fault, is_applied, put};
 use std::alloc::Global;
 
 // How many edits of a kind are drawn.
@@ -15,50 +17,26 @@ const EDITS: u16 = 50;
 // How many definitions are drawn at most to find one at classes with none below them.
 const TRIES: u32 = 64;
 
-/// Edits that are accepted one after another, and the edits that undo them.
+// How many edits a batch has that is refused or undone.
+const BATCH: u16 = 500;
+
+// The first body that no definition of a generated program has.
+const NEW_BODY: u16 = 16_384;
+
+/// Edits of a kind that are accepted one after another, and the edits that undo them.
 #[derive(Drop)]
 pub struct Trial {
+    /// The kind.
+    pub kind: EditKind,
     /// The edits.
     pub edits: Vec<Edit>,
     /// What undoes them, that of the last edit first.
     pub undo: Vec<Edit>,
 }
 
-/// The definition of this number, as the batches of a generated program have it.
-pub fn definition(batches: &[Batch], number: u16) -> Option<(SelNo, Tuple, BodyNo)> {
-    let batch = batches.get(usize::from(number / BATCH) + 2)?;
-    match batch.edit(u32::from(number % BATCH) + 1)? {
-        Edit::Define {
-            selector,
-            classes,
-            body,
-        } => Some((*selector, *classes, *body)),
-        _ => None,
-    }
-}
-
-// The first parent of the class, as the batches of a generated program have it.
-fn first_parent(batches: &[Batch], class: ClassNo) -> Option<ClassNo> {
-    let batch = batches.first()?;
-    match batch.edit(u32::from(class.number()) + 1)? {
-        Edit::AddClass { parents, .. } => parents.classes().first().copied(),
-        _ => None,
-    }
-}
-
-// The body of the selector at these classes.
-fn body_at(program: &Program, selector: SelNo, classes: &Tuple) -> Option<BodyNo> {
-    for defined in program.definitions_of(selector) {
-        if defined.classes == *classes {
-            return Some(defined.body);
-        }
-    }
-    None
-}
-
 // What undoes a definition: the one that it replaces, or that it goes.
 fn undo_of_define(program: &Program, selector: SelNo, classes: Tuple) -> Edit {
-    match body_at(program, selector, &classes) {
+    match program.body(selector, classes.classes()) {
         Some(body) => Edit::Define {
             selector,
             classes,
@@ -70,7 +48,7 @@ fn undo_of_define(program: &Program, selector: SelNo, classes: Tuple) -> Edit {
 
 // What undoes the end of a definition, if there is one.
 fn undo_of_undefine(program: &Program, selector: SelNo, classes: Tuple) -> Option<Edit> {
-    let body = body_at(program, selector, &classes)?;
+    let body = program.body(selector, classes.classes())?;
     Some(Edit::Define {
         selector,
         classes,
@@ -101,66 +79,36 @@ fn undo_of(program: &Program, edit: &Edit) -> Option<Edit> {
 }
 
 // Puts an edit, and what undoes it, behind the others.
-fn keep(trial: &mut Trial, edit: Edit, undo: Edit) -> Result<(), NoMemory> {
+fn keep(trial: &mut Trial, edit: Edit, undo: Edit) -> Result<(), Fault> {
     trial.edits.push(edit)?;
     trial.undo.push(undo)?;
     Ok(())
 }
 
 // Keeps the edit where it is accepted.
-fn keep_if_accepted(program: &mut Program, trial: &mut Trial, edit: Edit) -> Result<(), NoMemory> {
+fn keep_if_accepted(program: &mut Program, trial: &mut Trial, edit: Edit) -> Result<(), Fault> {
     let Some(undo) = undo_of(program, &edit) else {
         return Ok(());
     };
-    if try_edit(program, &edit)? {
+    if is_applied(program, &edit)? {
         keep(trial, edit, undo)?;
     }
     Ok(())
 }
 
-// Those of the edits that are accepted one after another. The program is left as they found it.
-fn keep_accepted(
-    alloc: Global,
-    program: &mut Program,
-    edits: Vec<Edit>,
-) -> Result<Trial, NoMemory> {
-    let mut trial = Trial {
-        edits: Vec::new(alloc),
-        undo: Vec::new(alloc),
-    };
+// Keeps those of the edits that are accepted one after another.
+fn keep_accepted(program: &mut Program, trial: &mut Trial, edits: Vec<Edit>) -> Result<(), Fault> {
     for edit in edits {
-        keep_if_accepted(program, &mut trial, edit)?;
+        keep_if_accepted(program, trial, edit)?;
     }
     trial.undo.reverse();
-    apply_all(program, &trial.undo)?;
-    Ok(trial)
+    Ok(())
 }
 
-// Draws the number of a definition, and answers that definition.
-fn draw_defined(
-    draws: &mut Draws,
-    size: Size,
-    batches: &[Batch],
-) -> Option<(SelNo, Tuple, BodyNo)> {
-    let number = draws.draw(definition_count(size));
-    definition(batches, number)
-}
-
-/// Undefines of definitions.
-pub fn undefines(
-    alloc: Global,
-    draws: &mut Draws,
-    size: Size,
-    batches: &[Batch],
-    program: &mut Program,
-) -> Result<Trial, NoMemory> {
-    let mut edits = Vec::new(alloc);
-    for _ in 0..EDITS {
-        if let Some((selector, classes, _)) = draw_defined(draws, size, batches) {
-            edits.push(Edit::Undefine { selector, classes })?;
-        }
-    }
-    keep_accepted(alloc, program, edits)
+// Draws one of the definitions.
+fn draw_defined(chance: &mut Chance, generated: &Generated) -> Option<(SelNo, Tuple, BodyNo)> {
+    let number = chance.below(generated.size.definitions());
+    generated.definition(number)
 }
 
 // Whether no class is below one of these.
@@ -173,13 +121,12 @@ fn are_leaves(graph: &ClassGraph, classes: &Tuple) -> bool {
 
 // Draws a definition whose classes have none below them.
 fn draw_at_leaves(
-    draws: &mut Draws,
-    size: Size,
-    batches: &[Batch],
+    chance: &mut Chance,
+    generated: &Generated,
     graph: &ClassGraph,
 ) -> Option<(SelNo, Tuple, BodyNo)> {
     for _ in 0..TRIES {
-        if let Some(defined) = draw_defined(draws, size, batches)
+        if let Some(defined) = draw_defined(chance, generated)
             && are_leaves(graph, &defined.1)
         {
             return Some(defined);
@@ -188,131 +135,190 @@ fn draw_at_leaves(
     None
 }
 
-/// Definitions where there is one, each by a body of its own: any of them, or only those at classes with none below them.
-pub fn redefines(
+// The definition, if there is one, by the new body of this number.
+fn redefine(defined: Option<(SelNo, Tuple, BodyNo)>, number: u16) -> Option<Edit> {
+    let (selector, classes, _) = defined?;
+    Some(Edit::Define {
+        selector,
+        classes,
+        body: BodyNo::new(NEW_BODY.wrapping_add(number)),
+    })
+}
+
+// Draws a definition that goes.
+fn draw_undefine(chance: &mut Chance, generated: &Generated) -> Option<Edit> {
+    let (selector, classes, _) = draw_defined(chance, generated)?;
+    Some(Edit::Undefine { selector, classes })
+}
+
+// Draws a class and a class before it. There are two classes at least.
+fn draw_link(chance: &mut Chance, size: Size) -> Option<Edit> {
+    let number = 1 + chance.below(size.classes - 1);
+    let parent = draw_class(chance, number);
+    let class = ClassNo::new(number)?;
+    Some(Edit::Link { class, parent })
+}
+
+// Draws a class, whose link to its first parent goes.
+fn draw_unlink(chance: &mut Chance, generated: &Generated) -> Option<Edit> {
+    let number = 1 + chance.below(generated.size.classes - 1);
+    let class = ClassNo::new(number)?;
+    let parent = generated.first_parent(class)?;
+    Some(Edit::Unlink { class, parent })
+}
+
+// Draws the parents of a class, one or two that are below the bound.
+fn draw_parents(alloc: Global, chance: &mut Chance, bound: u16) -> Result<Parents, NoMemory>
+    requires { 0 < bound }
+{
+    let first = draw_class(chance, bound);
+    let second = draw_class(chance, bound);
+    if chance.below(4) != 0 || first == second {
+        return Parents::new(alloc, &[first]);
+    }
+    Parents::new(alloc, &[first, second])
+}
+
+// Draws the new class of this number, from 0, below classes that are there. `None` where there are no more classes.
+fn draw_new_class(
     alloc: Global,
-    draws: &mut Draws,
+    chance: &mut Chance,
     size: Size,
-    batches: &[Batch],
-    program: &mut Program,
-    only_leaves: bool,
-) -> Result<Trial, NoMemory> {
+    number: u16,
+) -> Result<Option<Edit>, Fault> {
+    let Some(class) = ClassNo::new(size.classes.saturating_add(number)) else {
+        return Ok(None);
+    };
+    let parents = draw_parents(alloc, chance, size.classes)?;
+    Ok(Some(Edit::AddClass { class, parents }))
+}
+
+// Draws the edit of this number of the kind. What undoes a kind is drawn with it.
+fn draw_edit(
+    alloc: Global,
+    chance: &mut Chance,
+    generated: &Generated,
+    graph: &ClassGraph,
+    kind: EditKind,
+    number: u16,
+) -> Result<Option<Edit>, Fault> {
+    match kind {
+        EditKind::LeafRedefine => Ok(redefine(draw_at_leaves(chance, generated, graph), number)),
+        EditKind::Redefine => Ok(redefine(draw_defined(chance, generated), number)),
+        EditKind::Define | EditKind::Undefine => Ok(draw_undefine(chance, generated)),
+        EditKind::Link => Ok(draw_link(chance, generated.size)),
+        EditKind::Unlink => Ok(draw_unlink(chance, generated)),
+        EditKind::Class | EditKind::Drop => draw_new_class(alloc, chance, generated.size, number),
+    }
+}
+
+// Draws edits of the kind.
+fn draw_edits(
+    alloc: Global,
+    chance: &mut Chance,
+    generated: &Generated,
+    graph: &ClassGraph,
+    kind: EditKind,
+) -> Result<Vec<Edit>, Fault> {
     let mut edits = Vec::new(alloc);
     for number in 0..EDITS {
-        let drawn = if only_leaves {
-            draw_at_leaves(draws, size, batches, program.graph())
-        } else {
-            draw_defined(draws, size, batches)
-        };
-        if let Some((selector, classes, _)) = drawn {
-            let body = BodyNo::new(definition_count(size) + number);
-            edits.push(Edit::Define {
+        if let Some(edit) = draw_edit(alloc, chance, generated, graph, kind, number)? {
+            edits.push(edit)?;
+        }
+    }
+    Ok(edits)
+}
+
+// Draws edits of the kind for this program, which is left as it is found.
+fn draw_trial(
+    alloc: Global,
+    chance: &mut Chance,
+    generated: &Generated,
+    program: &mut Program,
+    kind: EditKind,
+) -> Result<Trial, Fault> {
+    let mut trial = Trial {
+        kind,
+        edits: Vec::new(alloc),
+        undo: Vec::new(alloc),
+    };
+    let edits = draw_edits(alloc, chance, generated, program.graph(), kind)?;
+    keep_accepted(program, &mut trial, edits)?;
+    apply_all(program, &trial.undo)?;
+    Ok(trial)
+}
+
+/// Draws edits of each kind for this program, which is left as it is found: 50 of each, of which those are kept that are
+/// accepted.
+pub fn draw_trials(
+    alloc: Global,
+    chance: &mut Chance,
+    generated: &Generated,
+    program: &mut Program,
+) -> Result<Vec<Trial>, Fault> {
+    let mut trials = Vec::new(alloc);
+    for kind in [
+        EditKind::LeafRedefine,
+        EditKind::Redefine,
+        EditKind::Undefine,
+        EditKind::Link,
+        EditKind::Unlink,
+        EditKind::Class,
+    ] {
+        trials.push(draw_trial(alloc, chance, generated, program, kind)?)?;
+    }
+    Ok(trials)
+}
+
+// Puts definitions into the batch that are there already, each by the body that it has or by the one that is so much more.
+fn put_defined(
+    batch: &mut Batch,
+    chance: &mut Chance,
+    generated: &Generated,
+    count: u16,
+    added: u16,
+) -> Result<(), Fault> {
+    for _ in 0..count {
+        if let Some((selector, classes, body)) = draw_defined(chance, generated) {
+            let body = BodyNo::new(body.number().wrapping_add(added));
+            let edit = Edit::Define {
                 selector,
                 classes,
                 body,
-            })?;
+            };
+            put(batch, edit)?;
         }
     }
-    keep_accepted(alloc, program, edits)
-}
-
-/// Links from classes to classes before them.
-pub fn links(
-    alloc: Global,
-    draws: &mut Draws,
-    size: Size,
-    program: &mut Program,
-) -> Result<Trial, NoMemory> {
-    let mut edits = Vec::new(alloc);
-    for _ in 0..EDITS {
-        let number = 1 + draws.draw(size.classes - 1);
-        let parent = draws.draw_class(number);
-        let class = ClassNo::new(number).unwrap();
-        edits.push(Edit::Link { class, parent })?;
-    }
-    keep_accepted(alloc, program, edits)
-}
-
-/// Links to the first parents of classes go.
-pub fn unlinks(
-    alloc: Global,
-    draws: &mut Draws,
-    size: Size,
-    batches: &[Batch],
-    program: &mut Program,
-) -> Result<Trial, NoMemory> {
-    let mut edits = Vec::new(alloc);
-    for _ in 0..EDITS {
-        let number = 1 + draws.draw(size.classes - 1);
-        let class = ClassNo::new(number).unwrap();
-        if let Some(parent) = first_parent(batches, class) {
-            edits.push(Edit::Unlink { class, parent })?;
-        }
-    }
-    keep_accepted(alloc, program, edits)
-}
-
-/// The classes that would come next in a larger program.
-pub fn new_classes(
-    alloc: Global,
-    draws: &mut Draws,
-    size: Size,
-    program: &mut Program,
-) -> Result<Trial, NoMemory> {
-    let mut edits = Vec::new(alloc);
-    let end = CLASSES.min(size.classes + EDITS);
-    for number in size.classes..end {
-        edits.push(draw_class_edit(alloc, draws, number)?)?;
-    }
-    keep_accepted(alloc, program, edits)
-}
-
-// A batch of so many definitions that are drawn, each by the body that it adds to.
-fn drawn_batch(
-    alloc: Global,
-    draws: &mut Draws,
-    size: Size,
-    batches: &[Batch],
-    count: u16,
-    added: u16,
-) -> Result<Batch, NoMemory> {
-    let mut batch = Batch::new(alloc);
-    for _ in 0..count {
-        if let Some((selector, classes, body)) = draw_defined(draws, size, batches) {
-            let body = BodyNo::new(body.number().wrapping_add(added));
-            put(
-                &mut batch,
-                Edit::Define {
-                    selector,
-                    classes,
-                    body,
-                },
-            )?;
-        }
-    }
-    Ok(batch)
+    Ok(())
 }
 
 /// A batch of definitions that are there already, each by another body.
 pub fn redefining_batch(
     alloc: Global,
-    draws: &mut Draws,
-    size: Size,
-    batches: &[Batch],
-) -> Result<Batch, NoMemory> {
-    drawn_batch(alloc, draws, size, batches, BATCH, definition_count(size))
+    chance: &mut Chance,
+    generated: &Generated,
+) -> Result<Batch, Fault> {
+    let mut batch = Batch::new(alloc);
+    put_defined(&mut batch, chance, generated, BATCH, NEW_BODY)?;
+    Ok(batch)
 }
 
 /// A batch of definitions that are there already, and of an edit that is refused: class 0 is live.
 pub fn refused_batch(
     alloc: Global,
-    draws: &mut Draws,
-    size: Size,
-    batches: &[Batch],
-) -> Result<Batch, NoMemory> {
-    let mut batch = drawn_batch(alloc, draws, size, batches, BATCH - 1, 0)?;
-    let class = ClassNo::default();
-    let parents = Parents::new(alloc, &[])?;
-    put(&mut batch, Edit::AddClass { class, parents })?;
+    chance: &mut Chance,
+    generated: &Generated,
+) -> Result<Batch, Fault> {
+    let mut batch = Batch::new(alloc);
+    put_defined(&mut batch, chance, generated, BATCH - 1, 0)?;
+    put(&mut batch, class_again(alloc)?)?;
     Ok(batch)
+}
+
+// The edit that adds class 0.
+fn class_again(alloc: Global) -> Result<Edit, NoMemory> {
+    Ok(Edit::AddClass {
+        class: ClassNo::default(),
+        parents: Parents::new(alloc, &[])?,
+    })
 }

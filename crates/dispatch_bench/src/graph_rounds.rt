@@ -1,6 +1,6 @@
-ghost use Rattle.dispatch_bench.specs.Size.{IsClassCount};
+ghost use Rattle.std.specs.Prelude.{◌≤◌};
+ghost use Rattle.dt_graph.specs.declared.limits.TheConstants.{CLASSES};
 
-use crate::draws::Draws;
 use crate::figures::cost;
 use crate::metric::Metric;
 use crate::mix::Mix;
@@ -10,7 +10,7 @@ use crate::shape::Shape;
 use crate::stopwatch::Stopwatch;
 use crate::table::Table;
 use dt_graph::{CLASSES, ClassGraph, ClassNo};
-use dt_trials::Fault;
+use dt_trials::{Chance, Fault};
 use std::rt::Clock;
 
 // How often a round makes each change.
@@ -26,8 +26,10 @@ pub struct GraphPlan {
     pub shape: Shape,
     /// The classes, from 2 to 2,048.
     pub classes: u16,
-    /// The number of classes is in its range.
-    pub ghost in_range: { IsClassCount classes },
+    /// There are two classes.
+    pub ghost two_classes: { 2 ≤ classes },
+    /// There are no more than there may be.
+    pub ghost in_range: { classes ≤ CLASSES },
 }
 
 impl GraphPlan {
@@ -246,7 +248,7 @@ fn time_with_pairs<R: Clock + AllocGlobal>(
     graph: &mut ClassGraph,
     plan: GraphPlan,
 ) -> Result<(), Fault> {
-    let pairs = random_pairs(rt.alloc(), &mut Draws::new(1), plan.classes)?;
+    let pairs = random_pairs(rt.alloc(), &mut Chance::new(1), plan.classes)?;
     time_rounds(rt, table, graph, plan, &pairs)
 }
 

@@ -5,23 +5,25 @@
 //! graph of C classes that is a `chain`, a `star` or `diamonds`, and `selector D` a selector of two arguments with D
 //! definitions, at most 3,600. Each line of figures is `NAME SIZE | METRIC | UNIT | MEDIAN | LEAST | GREATEST`, over 21
 //! rounds. `occupancy N C S` times nothing: of the table of each kind it prints for every 2,048 cells how many have an
-//! answer, `NAME SIZE | BLOCK | CELLS`, up to the last block in use.
+//! answer, `NAME SIZE | BLOCK | CELLS`, up to the last block in use. The generated program is the one that the script of
+//! these numbers makes before its calls (`dt_script::make_script`).
 #![tactic(auto)]
 
 ghost use Rattle.std.specs.Prelude.{◌≤◌};
 
 mod difference_rounds;
-mod draws;
+mod drawing;
 mod edit_kind;
 mod edits;
 mod figures;
-mod generator;
+mod generated;
 mod graph_rounds;
 mod metric;
 mod mix;
 mod occupancy;
 mod program_rounds;
 mod queries;
+mod query_kind;
 mod selector_rounds;
 mod shape;
 mod single_edits;
@@ -42,6 +44,7 @@ use dt_mrd::Mrd;
 use dt_row::Row;
 use dt_sti::Sti;
 use dt_trials::Fault;
+use generated::Generated;
 use graph_rounds::{GraphPlan, time_graph};
 use occupancy::print_occupancy;
 use program_rounds::time_program;
@@ -52,7 +55,8 @@ use std::env;
 use std::process::ExitCode;
 use std::rt::{Clock, Env, Files};
 use table::Table;
-use table_rounds::time_tables;
+use table_rounds::{TableWork, draw_work, time_tables};
+use table_space::Region;
 use tiny::print_counts;
 use words::{Command, read_command};
 
@@ -79,11 +83,11 @@ fn program_name(alloc: Global, word: &str, size: Size) -> Result<String, Fault> 
 fn print_scratch<R: Print + Clock + Files + AllocGlobal>(
     rt: &R,
     name: &str,
-    number: u64,
-    size: Size,
+    number: u32,
+    generated: &Generated,
 ) -> Result<(), Fault> {
     let mut table = Table::new(rt.alloc());
-    time_program(rt, &mut table, number, size)?;
+    time_program(rt, &mut table, number, generated)?;
     table.print(rt, name)?;
     Ok(())
 }
@@ -92,13 +96,13 @@ fn print_scratch<R: Print + Clock + Files + AllocGlobal>(
 fn print_tables<R: Print + Clock + AllocGlobal, K: TableKind>(
     rt: &R,
     name: &str,
-    number: u64,
-    size: Size,
+    generated: &Generated,
+    work: &TableWork,
 ) -> Result<(), Fault>
     requires { 1 ≤ K.kind.most_low }
 {
     let mut table = Table::new(rt.alloc());
-    time_tables::<R, K>(rt, &mut table, number, size)?;
+    time_tables::<R, K>(rt, &mut table, &generated.batches, work)?;
     table.print(rt, name)?;
     Ok(())
 }
@@ -107,69 +111,88 @@ fn print_tables<R: Print + Clock + AllocGlobal, K: TableKind>(
 fn print_kind<R: Print + Clock + AllocGlobal, K: TableKind>(
     rt: &R,
     word: &str,
-    number: u64,
-    size: Size,
+    generated: &Generated,
+    work: &TableWork,
 ) -> Result<(), Fault>
     requires { 1 ≤ K.kind.most_low }
 {
-    let name = program_name(rt.alloc(), word, size)?;
-    print_tables::<R, K>(rt, name.as_str(), number, size)
+    let name = program_name(rt.alloc(), word, generated.size)?;
+    print_tables::<R, K>(rt, name.as_str(), generated, work)
 }
 
 // Times a generated program with tables of each kind for queries of one class, alone: the others are looked up from scratch.
 fn print_single_kinds<R: Print + Clock + AllocGlobal>(
     rt: &R,
-    number: u64,
-    size: Size,
+    generated: &Generated,
+    work: &TableWork,
 ) -> Result<(), Fault> {
-    print_kind::<R, Sti>(rt, "sti-alone", number, size)?;
-    print_kind::<R, Colour>(rt, "colour-alone", number, size)?;
-    print_kind::<R, Row>(rt, "row-alone", number, size)
+    print_kind::<R, Sti>(rt, "sti-alone", generated, work)?;
+    print_kind::<R, Colour>(rt, "colour-alone", generated, work)?;
+    print_kind::<R, Row>(rt, "row-alone", generated, work)
 }
 
 // Times a generated program with tables of each kind.
 fn print_kinds<R: Print + Clock + AllocGlobal>(
     rt: &R,
-    number: u64,
-    size: Size,
+    generated: &Generated,
+    work: &TableWork,
 ) -> Result<(), Fault> {
-    print_single_kinds(rt, number, size)?;
-    print_kind::<R, Pair<Sti, Mrd>>(rt, "sti", number, size)?;
-    print_kind::<R, Pair<Colour, Mrd>>(rt, "colour", number, size)?;
-    print_kind::<R, Pair<Row, Mrd>>(rt, "row", number, size)?;
-    print_kind::<R, Mrd>(rt, "mrd", number, size)
-}
-
-// Prints the occupancy of the table of this kind.
-fn print_occupied<R: Print + AllocGlobal, K: TableKind>(
-    rt: &R,
-    word: &str,
-    number: u64,
-    size: Size,
-) -> Result<(), Fault>
-    requires { 1 ≤ K.kind.most_low }
-{
-    let name = program_name(rt.alloc(), word, size)?;
-    print_occupancy::<R, K>(rt, name.as_str(), number, size)
-}
-
-// Prints the occupancy of the table of each kind.
-fn print_occupancies<R: Print + AllocGlobal>(rt: &R, number: u64, size: Size) -> Result<(), Fault> {
-    print_occupied::<R, Pair<Sti, Mrd>>(rt, "sti", number, size)?;
-    print_occupied::<R, Pair<Colour, Mrd>>(rt, "colour", number, size)?;
-    print_occupied::<R, Pair<Row, Mrd>>(rt, "row", number, size)?;
-    print_occupied::<R, Mrd>(rt, "mrd", number, size)
+    print_single_kinds(rt, generated, work)?;
+    print_kind::<R, Pair<Sti, Mrd>>(rt, "sti", generated, work)?;
+    print_kind::<R, Pair<Colour, Mrd>>(rt, "colour", generated, work)?;
+    print_kind::<R, Pair<Row, Mrd>>(rt, "row", generated, work)?;
+    print_kind::<R, Mrd>(rt, "mrd", generated, work)
 }
 
 // Times a generated program, from scratch and with tables.
 fn print_program<R: Print + Clock + Files + AllocGlobal>(
     rt: &R,
-    number: u64,
+    number: u32,
+    generated: &Generated,
+) -> Result<(), Fault> {
+    let name = program_name(rt.alloc(), "scratch", generated.size)?;
+    print_scratch(rt, name.as_str(), number, generated)?;
+    let work = draw_work(rt.alloc(), number, generated)?;
+    print_kinds(rt, generated, &work)
+}
+
+// Prints the occupancy of a part of the table of this kind.
+fn print_occupied<R: Print + AllocGlobal, K: TableKind>(
+    rt: &R,
+    word: &str,
+    region: Region,
+    generated: &Generated,
+) -> Result<(), Fault>
+    requires { 1 ≤ K.kind.most_low }
+{
+    let name = program_name(rt.alloc(), word, generated.size)?;
+    print_occupancy::<R, K>(rt, name.as_str(), region, &generated.batches)
+}
+
+// Prints the occupancy of the table of each kind: of the master array where it has the selectors of two arguments alone,
+// as it stands beside each other kind, and where it has all.
+fn print_occupancies<R: Print + AllocGlobal>(rt: &R, generated: &Generated) -> Result<(), Fault> {
+    print_occupied::<R, Sti>(rt, "sti", Region::Single, generated)?;
+    print_occupied::<R, Colour>(rt, "colour", Region::Single, generated)?;
+    print_occupied::<R, Row>(rt, "row", Region::Single, generated)?;
+    print_occupied::<R, Pair<Row, Mrd>>(rt, "mrd-beside", Region::Master, generated)?;
+    print_occupied::<R, Mrd>(rt, "mrd", Region::Master, generated)
+}
+
+// Makes the generated program of this number and size, and times it.
+fn print_figures<R: Print + Clock + Files + AllocGlobal>(
+    rt: &R,
+    number: u32,
     size: Size,
 ) -> Result<(), Fault> {
-    let name = program_name(rt.alloc(), "scratch", size)?;
-    print_scratch(rt, name.as_str(), number, size)?;
-    print_kinds(rt, number, size)
+    let generated = Generated::new(rt.alloc(), number, size)?;
+    print_program(rt, number, &generated)
+}
+
+// Makes the generated program of this number and size, and prints the occupancy of its tables.
+fn print_blocks<R: Print + AllocGlobal>(rt: &R, number: u32, size: Size) -> Result<(), Fault> {
+    let generated = Generated::new(rt.alloc(), number, size)?;
+    print_occupancies(rt, &generated)
 }
 
 // Times a graph, and prints the figures under this name.
@@ -208,31 +231,48 @@ fn selector_name(alloc: Global, definitions: u16) -> Result<String, Fault> {
     Ok(format!(in alloc; "selector {definitions}")?)
 }
 
+// Times a graph.
+fn print_plan<R: Print + Clock + AllocGlobal>(rt: &R, plan: GraphPlan) -> Result<(), Fault> {
+    let name = graph_name(rt.alloc(), plan)?;
+    print_graph(rt, name.as_str(), plan)
+}
+
+// Times a selector with so many definitions.
+fn print_definitions<R: Print + Clock + AllocGlobal>(
+    rt: &R,
+    definitions: u16,
+) -> Result<(), Fault> {
+    let name = selector_name(rt.alloc(), definitions)?;
+    print_selector(rt, name.as_str(), definitions)
+}
+
+// Does what the command asks for.
+fn obey<R: Print + Clock + Files + AllocGlobal>(rt: &R, command: Command) -> Result<(), Fault> {
+    match command {
+        Command::Count => print_counts(rt),
+        Command::Program { number, size } => print_figures(rt, number, size),
+        Command::Occupancy { number, size } => print_blocks(rt, number, size),
+        Command::Graph { plan } => print_plan(rt, plan),
+        Command::Selector { definitions } => print_definitions(rt, definitions),
+    }
+}
+
+// The command that the words after the program's name are.
+fn given_command<R: Env + AllocGlobal>(rt: &R) -> Result<Option<Command>, Fault> {
+    let words = given_words(rt)?;
+    Ok(read_command(&words))
+}
+
 // Does what the words ask for, and answers whether they ask for anything.
 fn run<R: Print + Clock + Files + Env + AllocGlobal>(rt: &R) -> Result<bool, Fault> {
-    let words = given_words(rt)?;
-    match read_command(&words) {
-        Some(Command::Count) => print_counts(rt)?,
-        Some(Command::Program { number, size }) => print_program(rt, number, size)?,
-        Some(Command::Occupancy { number, size }) => print_occupancies(rt, number, size)?,
-        Some(Command::Graph { plan }) => {
-            print_graph(rt, graph_name(rt.alloc(), plan)?.as_str(), plan)?;
-        }
-        Some(Command::Selector { definitions }) => {
-            print_selector(
-                rt,
-                selector_name(rt.alloc(), definitions)?.as_str(),
-                definitions,
-            )?;
-        }
-        None => {
-            println!(rt;
-                "usage: dispatch_bench\n       dispatch_bench bench N C S\n       dispatch_bench occupancy N C S\n       dispatch_bench graph chain|star|diamonds C\n       dispatch_bench selector D"
-            )?;
-            return Ok(false);
-        }
+    if let Some(command) = given_command(rt)? {
+        obey(rt, command)?;
+        return Ok(true);
     }
-    Ok(true)
+    println!(rt;
+        "usage: dispatch_bench\n       dispatch_bench bench N C S\n       dispatch_bench occupancy N C S\n       dispatch_bench graph chain|star|diamonds C\n       dispatch_bench selector D"
+    )?;
+    Ok(false)
 }
 
 fn main(rt: HostRuntime) -> ExitCode {

@@ -1,6 +1,7 @@
 ghost use Rattle.std.specs.Prelude.{◌<◌};
 
 use crate::edit_kind::EditKind;
+use crate::query_kind::QueryKind;
 use std::fmt;
 
 /// The unit of a metric's figures.
@@ -48,28 +49,12 @@ impl Unit {
 /// What is measured.
 #[derive(Clone, Copy, Debug, PartialEq, Eq)]
 pub enum Metric {
-    /// A look-up with one argument that a method answers.
-    HitsOfOne,
-    /// A look-up with one argument, drawn as the generator draws calls.
-    RandomOfOne,
-    /// A look-up with two arguments that a method answers.
-    HitsOfTwo,
+    /// A look-up from scratch.
+    Resolve { kind: QueryKind },
     /// Whether a class is below another.
     IsBelow,
-    /// A definition of what has none.
-    Define,
-    /// Another body for a definition.
-    Redefine,
-    /// A definition goes.
-    Undefine,
-    /// A link between two classes of a program.
-    LinkEdit,
-    /// The link to the first parent of a class of a program goes.
-    UnlinkEdit,
-    /// A new class of a program, with one or two parents.
-    ClassEdit,
-    /// A class of a program goes.
-    DropEdit,
+    /// An edit of a program.
+    Edit { kind: EditKind },
     /// A batch of which the last edit is refused.
     RefusedBatch,
     /// A batch that is accepted, and then undone.
@@ -94,12 +79,8 @@ pub enum Metric {
     AddMiddle,
     /// The classes below a class.
     Descendants,
-    /// A look-up over a table with one argument that a method answers.
-    FindHits,
-    /// A look-up over a table with one argument, drawn as the generator draws calls.
-    FindRandom,
-    /// A look-up over a table with two arguments that a method answers.
-    FindHitsOfTwo,
+    /// A look-up over a table.
+    Find { kind: QueryKind },
     /// The changes of an edit are found.
     Changes { kind: EditKind },
     /// A batch of one edit is committed: to the program, and to its table.
@@ -127,20 +108,12 @@ pub enum Metric {
 }
 
 impl Metric {
-    // The words that are printed, but for those of a kind of edits.
+    // The words that are printed, but for those of a kind.
     fn words(self) -> &'static str {
         match self {
-            Metric::HitsOfOne => "resolve k1 hits",
-            Metric::RandomOfOne => "resolve k1 random",
-            Metric::HitsOfTwo => "resolve k2 hits",
+            Metric::Resolve { .. } => "resolve",
             Metric::IsBelow => "is_below",
-            Metric::Define => "edit define",
-            Metric::Redefine => "edit redefine",
-            Metric::Undefine => "edit undefine",
-            Metric::LinkEdit => "edit link",
-            Metric::UnlinkEdit => "edit unlink",
-            Metric::ClassEdit => "edit class",
-            Metric::DropEdit => "edit drop",
+            Metric::Edit { .. } => "edit",
             Metric::RefusedBatch => "batch of 500 refused at its last",
             Metric::TriedBatch => "batch of 500 tried and undone",
             Metric::Copy => "copy",
@@ -153,9 +126,7 @@ impl Metric {
             Metric::DropMiddle => "drop in the middle",
             Metric::AddMiddle => "add in the middle",
             Metric::Descendants => "descendants",
-            Metric::FindHits => "find k1 hits",
-            Metric::FindRandom => "find k1 random",
-            Metric::FindHitsOfTwo => "find k2 hits",
+            Metric::Find { .. } => "find",
             Metric::Changes { .. } => "changes",
             Metric::Commit { .. } => "commit",
             Metric::ChangeCount { .. } => "number of changes",
@@ -171,13 +142,15 @@ impl Metric {
         }
     }
 
-    // The kind of the edits that are measured, where the words don't say it.
-    fn kind(self) -> Option<EditKind> {
+    // The words of the kind of the look-ups or edits that are measured, where the others don't say it.
+    fn kind_words(self) -> Option<&'static str> {
         match self {
-            Metric::Changes { kind }
+            Metric::Resolve { kind } | Metric::Find { kind } => Some(kind.words()),
+            Metric::Edit { kind }
+            | Metric::Changes { kind }
             | Metric::Commit { kind }
             | Metric::ChangeCount { kind }
-            | Metric::StepCount { kind } => Some(kind),
+            | Metric::StepCount { kind } => Some(kind.words()),
             _ => None,
         }
     }
@@ -185,10 +158,7 @@ impl Metric {
     /// The unit of the figures.
     pub fn unit(self) -> Unit {
         match self {
-            Metric::HitsOfOne | Metric::RandomOfOne | Metric::HitsOfTwo | Metric::IsBelow => {
-                Unit::Nanoseconds
-            }
-            Metric::FindHits | Metric::FindRandom | Metric::FindHitsOfTwo => Unit::Nanoseconds,
+            Metric::Resolve { .. } | Metric::Find { .. } | Metric::IsBelow => Unit::Nanoseconds,
             Metric::ChangeCount { .. } | Metric::StepCount { .. } => Unit::Each,
             Metric::Load | Metric::LoadTables => Unit::Milliseconds,
             Metric::Memory => Unit::Megabytes,
@@ -203,11 +173,8 @@ impl Metric {
 impl fmt::Display for Metric {
     fn fmt<W: fmt::Write>(&self, f: &mut fmt::Formatter<W>) -> fmt::Result {
         let words = self.words();
-        match self.kind() {
-            Some(kind) => {
-                let kind = kind.words();
-                write!(f, "{words} {kind}")
-            }
+        match self.kind_words() {
+            Some(kind) => write!(f, "{words} {kind}"),
             None => f.write_str(words),
         }
     }

@@ -1,27 +1,23 @@
 ghost use Rattle.std.specs.Prelude.{◌<◌, ◌≤◌};
 
-use crate::draws::Draws;
-use crate::generator::draw_program;
-use crate::size::Size;
 use crate::table_rounds::load_tabled;
-use crate::table_space::{CELLS, spanned_cells};
+use crate::table_space::Region;
 use dt_cells::TableKind;
+use dt_definitions::Batch;
 use dt_pages::Tree;
 use dt_trials::Fault;
 
 // So many cells make a block.
 const BLOCK: u32 = 2048;
 
-// So many blocks hold all cells of queries of one class.
-const BLOCKS: u32 = 8192;
-
 // How many cells of the block have an answer.
-fn count_block(tree: &Tree, block: u32) -> u32
-    requires { block < 8192 }
+fn count_block(tree: &Tree, region: Region, block: u32) -> u32
+    requires { block < 32768 }
 {
+    let first = region.first() + BLOCK * block;
     let mut used: u32 = 0;
     for number in 0..BLOCK {
-        if tree.word(CELLS + BLOCK * block + number) != 0 {
+        if tree.word(first + number) != 0 {
             used = used.saturating_add(1);
         }
     }
@@ -29,30 +25,25 @@ fn count_block(tree: &Tree, block: u32) -> u32
 }
 
 // Prints a line for each block up to the last cell that has an answer.
-fn print_blocks(rt: &impl Print, name: &str, tree: &Tree) -> Result<(), Fault> {
-    let spanned = spanned_cells(tree);
-    for block in 0..BLOCKS {
-        if BLOCK * block >= spanned {
-            return Ok(());
-        }
-        let used = count_block(tree, block);
+fn print_blocks(rt: &impl Print, name: &str, tree: &Tree, region: Region) -> Result<(), Fault> {
+    let blocks = (region.spanned(tree) + (BLOCK - 1)) / BLOCK;
+    for block in 0..blocks {
+        let used = count_block(tree, region, block);
         println!(rt; "{name} | {block} | {used}")?;
     }
     Ok(())
 }
 
-/// Prints how many cells of each 2,048 have an answer, up to the last that has one, where the generated program of this
-/// number and size has a table of this kind.
+/// Prints how many of each 2,048 cells of the region have an answer, up to the last that has one, where the program that
+/// these batches make has a table of this kind.
 pub fn print_occupancy<R: Print + AllocGlobal, K: TableKind>(
     rt: &R,
     name: &str,
-    number: u64,
-    size: Size,
+    region: Region,
+    batches: &[Batch],
 ) -> Result<(), Fault>
     requires { 1 ≤ K.kind.most_low }
 {
-    let mut draws = Draws::new(number);
-    let batches = draw_program(rt.alloc(), &mut draws, size)?;
-    let tabled = load_tabled::<K>(rt.alloc(), &batches)?;
-    print_blocks(rt, name, tabled.tree())
+    let tabled = load_tabled::<K>(rt.alloc(), batches)?;
+    print_blocks(rt, name, tabled.tree(), region)
 }

@@ -1,17 +1,15 @@
-use crate::draws::Draws;
-use crate::edits::{Trial, links, new_classes, redefines, refused_batch, undefines, unlinks};
-use crate::generator::draw_program;
+use crate::edit_kind::EditKind;
+use crate::edits::{Trial, draw_trials, refused_batch};
+use crate::generated::Generated;
 use crate::metric::Metric;
 use crate::mix::Mix;
-use crate::queries::{calls_of_one, hits_of_two, random_pairs};
-use crate::size::Size;
+use crate::queries::{Queries, draw_all_queries, random_pairs};
 use crate::stopwatch::Stopwatch;
 use crate::table::Table;
 use crate::trial_rounds::time_trials;
 use crate::work::{apply_all, count_below, load, resolve_all};
-use dt_definitions::{Batch, BatchFault, ClassGraph, ClassNo, Edit, NoMemory, Program};
-use dt_scratch::Query;
-use dt_trials::Fault;
+use dt_definitions::{Batch, BatchFault, ClassGraph, ClassNo, Edit, Program};
+use dt_trials::{Chance, Fault};
 use std::alloc::Global;
 use std::fs;
 use std::rt::{Clock, Files};
@@ -28,125 +26,40 @@ const PAGE: u64 = 4096;
 // What each round asks.
 #[derive(Drop)]
 struct Asked {
-    hits_of_one: Vec<Query>,
-    random_of_one: Vec<Query>,
-    hits_of_two: Vec<Query>,
+    queries: Vec<Queries>,
     pairs: Vec<(ClassNo, ClassNo)>,
 }
 
-impl Asked {
-    // Draws what is asked of this program.
-    fn draw(
-        alloc: Global,
-        draws: &mut Draws,
-        size: Size,
-        batches: &[Batch],
-        program: &Program,
-    ) -> Result<Asked, NoMemory> {
-        Ok(Asked {
-            hits_of_one: calls_of_one(alloc, draws, size, program, true)?,
-            random_of_one: calls_of_one(alloc, draws, size, program, false)?,
-            hits_of_two: hits_of_two(alloc, draws, size, program, batches)?,
-            pairs: random_pairs(alloc, draws, size.classes)?,
-        })
-    }
-}
-
-// The edits of definitions of each round.
+// What each round edits.
 #[derive(Drop)]
-struct Defining {
-    undefines: Trial,
-    redefines: Trial,
-}
-
-impl Defining {
-    // Draws the edits for this program, which is left as it is found.
-    fn draw(
-        alloc: Global,
-        draws: &mut Draws,
-        size: Size,
-        batches: &[Batch],
-        program: &mut Program,
-    ) -> Result<Defining, NoMemory> {
-        Ok(Defining {
-            undefines: undefines(alloc, draws, size, batches, program)?,
-            redefines: redefines(alloc, draws, size, batches, program, false)?,
-        })
-    }
-
-    // How many edits there are.
-    fn len(&self) -> usize {
-        self.undefines
-            .edits
-            .len()
-            .saturating_add(self.redefines.edits.len())
-    }
-}
-
-// The edits of classes and links of each round.
-#[derive(Drop)]
-struct Linking {
-    links: Trial,
-    unlinks: Trial,
-    classes: Trial,
-}
-
-impl Linking {
-    // Draws the edits for this program, which is left as it is found.
-    fn draw(
-        alloc: Global,
-        draws: &mut Draws,
-        size: Size,
-        batches: &[Batch],
-        program: &mut Program,
-    ) -> Result<Linking, NoMemory> {
-        Ok(Linking {
-            links: links(alloc, draws, size, program)?,
-            unlinks: unlinks(alloc, draws, size, batches, program)?,
-            classes: new_classes(alloc, draws, size, program)?,
-        })
-    }
-
-    // How many edits there are.
-    fn len(&self) -> usize {
-        self.links
-            .edits
-            .len()
-            .saturating_add(self.unlinks.edits.len())
-            .saturating_add(self.classes.edits.len())
-    }
-}
-
-/// What each round asks and edits.
-#[derive(Drop)]
-pub struct Workload {
-    asked: Asked,
-    defining: Defining,
-    linking: Linking,
+struct Edited {
+    trials: Vec<Trial>,
     refused: Batch,
 }
 
-impl Workload {
-    /// Draws the work for this program, which is left as it is found.
-    pub fn draw(
-        alloc: Global,
-        draws: &mut Draws,
-        size: Size,
-        batches: &[Batch],
-        program: &mut Program,
-    ) -> Result<Workload, NoMemory> {
-        Ok(Workload {
-            asked: Asked::draw(alloc, draws, size, batches, program)?,
-            defining: Defining::draw(alloc, draws, size, batches, program)?,
-            linking: Linking::draw(alloc, draws, size, batches, program)?,
-            refused: refused_batch(alloc, draws, size, batches)?,
-        })
-    }
+// Draws what is asked of this program.
+fn draw_asked(
+    alloc: Global,
+    chance: &mut Chance,
+    generated: &Generated,
+    program: &Program,
+) -> Result<Asked, Fault> {
+    let size = generated.size;
+    let pairs = random_pairs(alloc, chance, size.classes)?;
+    let queries = draw_all_queries(alloc, chance, size, program)?;
+    Ok(Asked { queries, pairs })
+}
 
-    /// How many of the edits that were drawn are accepted.
-    pub fn edits(&self) -> usize {
-        self.defining.len().saturating_add(self.linking.len())
-    }
+// Draws the edits for this program, which is left as it is found.
+fn draw_edited(
+    alloc: Global,
+    chance: &mut Chance,
+    generated: &Generated,
+    program: &mut Program,
+) -> Result<Edited, Fault> {
+    let trials = draw_trials(alloc, chance, generated, program)?;
+    let refused = refused_batch(alloc, chance, generated)?;
+    Ok(Edited { trials, refused })
 }
 
 /// How many operations a list has.
@@ -172,25 +85,25 @@ fn memory<R: Files + AllocGlobal>(rt: &R) -> Result<u64, Fault> {
 pub fn time_queries(
     rt: &impl Clock,
     table: &mut Table,
-    metric: Metric,
     program: &Program,
-    queries: &Vec<Query>,
+    queries: &Queries,
     mix: &mut Mix,
 ) -> Result<(), Fault> {
-    let count = operations(queries);
+    let kind = queries.kind;
+    let count = operations(&queries.calls);
     if count == 0 {
         return Ok(());
     }
     let watch = Stopwatch::start(rt)?;
-    resolve_all(program, queries, mix);
-    watch.stop(rt, table, metric, count)
+    resolve_all(program, &queries.calls, mix);
+    watch.stop(rt, table, Metric::Resolve { kind }, count)
 }
 
 // Times the edits.
 fn time_edits(
     rt: &impl Clock,
     table: &mut Table,
-    metric: Metric,
+    kind: EditKind,
     program: &mut Program,
     edits: &Vec<Edit>,
     mix: &mut Mix,
@@ -201,21 +114,25 @@ fn time_edits(
     }
     let watch = Stopwatch::start(rt)?;
     mix.add(apply_all(program, edits)?);
-    watch.stop(rt, table, metric, count)
+    watch.stop(rt, table, Metric::Edit { kind }, count)
 }
 
 // Times the edits, and undoes them.
 fn time_trial(
     rt: &impl Clock,
     table: &mut Table,
-    metric: Metric,
     program: &mut Program,
     trial: &Trial,
     mix: &mut Mix,
 ) -> Result<(), Fault> {
-    time_edits(rt, table, metric, program, &trial.edits, mix)?;
-    mix.add(apply_all(program, &trial.undo)?);
-    Ok(())
+    time_edits(rt, table, trial.kind, program, &trial.edits, mix)?;
+    match trial.kind.undone_by() {
+        Some(kind) => time_edits(rt, table, kind, program, &trial.undo, mix),
+        None => {
+            mix.add(apply_all(program, &trial.undo)?);
+            Ok(())
+        }
+    }
 }
 
 // Times the load of a program by its batches.
@@ -285,57 +202,31 @@ pub fn time_pairs(
 }
 
 // Times the look-ups of a round.
-fn time_lookups(
+fn time_asked(
     rt: &impl Clock,
     table: &mut Table,
     program: &Program,
     asked: &Asked,
     mix: &mut Mix,
 ) -> Result<(), Fault> {
-    for (metric, queries) in [
-        (Metric::HitsOfOne, &asked.hits_of_one),
-        (Metric::RandomOfOne, &asked.random_of_one),
-        (Metric::HitsOfTwo, &asked.hits_of_two),
-    ] {
-        time_queries(rt, table, metric, program, queries, mix)?;
+    for queries in &asked.queries {
+        time_queries(rt, table, program, queries, mix)?;
     }
     time_pairs(rt, table, program.graph(), &asked.pairs, mix)
 }
 
-// Times the edits of definitions of a round, each kind on the program as it was.
-fn time_defining(
+// Times the edits of a round, each kind on the program as it was.
+fn time_edited(
     rt: &impl Clock,
     table: &mut Table,
     program: &mut Program,
-    defining: &Defining,
+    edited: &Edited,
     mix: &mut Mix,
 ) -> Result<(), Fault> {
-    let Defining {
-        undefines,
-        redefines,
-    } = defining;
-    time_edits(rt, table, Metric::Undefine, program, &undefines.edits, mix)?;
-    time_edits(rt, table, Metric::Define, program, &undefines.undo, mix)?;
-    time_trial(rt, table, Metric::Redefine, program, redefines, mix)
-}
-
-// Times the edits of classes and links of a round, each kind on the program as it was.
-fn time_linking(
-    rt: &impl Clock,
-    table: &mut Table,
-    program: &mut Program,
-    linking: &Linking,
-    mix: &mut Mix,
-) -> Result<(), Fault> {
-    let Linking {
-        links,
-        unlinks,
-        classes,
-    } = linking;
-    time_trial(rt, table, Metric::LinkEdit, program, links, mix)?;
-    time_trial(rt, table, Metric::UnlinkEdit, program, unlinks, mix)?;
-    time_edits(rt, table, Metric::ClassEdit, program, &classes.edits, mix)?;
-    time_edits(rt, table, Metric::DropEdit, program, &classes.undo, mix)
+    for trial in &edited.trials {
+        time_trial(rt, table, program, trial, mix)?;
+    }
+    time_refused(rt, table, program, &edited.refused, mix)
 }
 
 // Times a round.
@@ -344,59 +235,80 @@ fn time_round<R: Clock + AllocGlobal>(
     table: &mut Table,
     program: &mut Program,
     batches: &[Batch],
-    work: &Workload,
+    asked: &Asked,
+    edited: &Edited,
 ) -> Result<(), Fault> {
     let mut mix = Mix::new();
-    time_lookups(rt, table, program, &work.asked, &mut mix)?;
-    time_defining(rt, table, program, &work.defining, &mut mix)?;
-    time_linking(rt, table, program, &work.linking, &mut mix)?;
-    time_refused(rt, table, program, &work.refused, &mut mix)?;
+    time_asked(rt, table, program, asked, &mut mix)?;
+    time_edited(rt, table, program, edited, &mut mix)?;
     time_load(rt, table, batches, &mut mix)?;
     time_copy(rt, table, program, &mut mix)?;
     table.put(Metric::Mix, u64::from(mix.number()))?;
     Ok(())
 }
 
-// Draws the work for a program, and times its rounds.
+// Times the rounds of a program.
 fn time_rounds<R: Clock + AllocGlobal>(
     rt: &R,
     table: &mut Table,
-    draws: &mut Draws,
-    size: Size,
-    batches: &[Batch],
     program: &mut Program,
+    batches: &[Batch],
+    asked: &Asked,
+    edited: &Edited,
 ) -> Result<(), Fault> {
-    let work = Workload::draw(rt.alloc(), draws, size, batches, program)?;
     for _ in 0..ROUNDS {
-        time_round(rt, table, program, batches, &work)?;
+        time_round(rt, table, program, batches, asked, edited)?;
     }
     Ok(())
+}
+
+// Draws the edits for a program, and times its rounds.
+fn time_drawn<R: Clock + AllocGlobal>(
+    rt: &R,
+    table: &mut Table,
+    chance: &mut Chance,
+    generated: &Generated,
+    program: &mut Program,
+    asked: &Asked,
+) -> Result<(), Fault> {
+    let edited = draw_edited(rt.alloc(), chance, generated, program)?;
+    time_rounds(rt, table, program, &generated.batches, asked, &edited)
+}
+
+// Draws the work for a program, and times it.
+fn time_loaded<R: Clock + AllocGlobal>(
+    rt: &R,
+    table: &mut Table,
+    chance: &mut Chance,
+    generated: &Generated,
+    program: &mut Program,
+) -> Result<(), Fault> {
+    let asked = draw_asked(rt.alloc(), chance, generated, program)?;
+    time_drawn(rt, table, chance, generated, program, &asked)
 }
 
 // Loads a program by its batches, and times it.
 fn time_batches<R: Clock + Files + AllocGlobal>(
     rt: &R,
     table: &mut Table,
-    draws: &mut Draws,
-    size: Size,
-    batches: &[Batch],
+    chance: &mut Chance,
+    generated: &Generated,
 ) -> Result<(), Fault> {
-    let mut program = load(rt.alloc(), batches)?;
+    let mut program = load(rt.alloc(), &generated.batches)?;
     let memory = memory(rt)?;
-    time_rounds(rt, table, draws, size, batches, &mut program)?;
+    time_loaded(rt, table, chance, generated, &mut program)?;
     table.put(Metric::Memory, memory)?;
     Ok(())
 }
 
-/// Times the generated program of this number and size.
+/// Times the generated program of this number.
 pub fn time_program<R: Clock + Files + AllocGlobal>(
     rt: &R,
     table: &mut Table,
-    number: u64,
-    size: Size,
+    number: u32,
+    generated: &Generated,
 ) -> Result<(), Fault> {
-    let mut draws = Draws::new(number);
-    let batches = draw_program(rt.alloc(), &mut draws, size)?;
-    time_batches(rt, table, &mut draws, size, &batches)?;
-    time_trials(rt, table, &mut draws, number, size, &batches)
+    let mut chance = Chance::new(u64::from(number));
+    time_batches(rt, table, &mut chance, generated)?;
+    time_trials(rt, table, &mut chance, generated)
 }

@@ -1,15 +1,16 @@
-use crate::generator::put;
+use crate::edit_kind::EditKind;
 use crate::metric::Metric;
 use crate::mix::{Mix, code_of};
 use crate::program_rounds::ROUNDS;
+use crate::query_kind::QueryKind;
 use crate::stopwatch::Stopwatch;
 use crate::table::Table;
-use crate::work::{load, try_edit};
+use crate::work::load;
 use dt_definitions::{
     Arity, Batch, BodyNo, ClassNo, Edit, NoMemory, Parents, Program, SelNo, Tuple,
 };
 use dt_scratch::{Query, resolve};
-use dt_trials::Fault;
+use dt_trials::{Fault, is_applied, put};
 use std::alloc::Global;
 use std::rt::Clock;
 
@@ -23,7 +24,7 @@ pub const MOST: u16 = LEAVES * LEAVES;
 const CHANGES: u32 = 16;
 
 // The class of this number.
-fn class(number: u16) -> ClassNo {
+fn class_of(number: u16) -> ClassNo {
     ClassNo::new(number).unwrap_or_default()
 }
 
@@ -41,44 +42,43 @@ fn leaves(number: u16) -> (u16, u16) {
 fn define(first: u16, second: u16, body: u16) -> Option<Edit> {
     Some(Edit::Define {
         selector: selector(),
-        classes: Tuple::new(&[class(first), class(second)])?,
+        classes: Tuple::new(&[class_of(first), class_of(second)])?,
         body: BodyNo::new(body),
     })
 }
 
+// The edit that adds the class of this number, below the first one, which has no parent.
+fn add_class(alloc: Global, number: u16) -> Result<Edit, NoMemory> {
+    let class = class_of(number);
+    let parents = if number == 0 {
+        Parents::new(alloc, &[])?
+    } else {
+        Parents::new(alloc, &[class_of(0)])?
+    };
+    Ok(Edit::AddClass { class, parents })
+}
+
+// Puts the edit that adds the selector.
+fn put_selector(batch: &mut Batch) -> Result<(), Fault> {
+    let Some(arity) = Arity::new(2) else {
+        return Ok(());
+    };
+    let selector = selector();
+    put(batch, Edit::AddSelector { selector, arity })
+}
+
 // The edits that make a class with its leaves, and the selector.
-fn ground(alloc: Global) -> Result<Batch, NoMemory> {
+fn ground(alloc: Global) -> Result<Batch, Fault> {
     let mut batch = Batch::new(alloc);
-    put(
-        &mut batch,
-        Edit::AddClass {
-            class: class(0),
-            parents: Parents::new(alloc, &[])?,
-        },
-    )?;
-    for number in 1..=LEAVES {
-        put(
-            &mut batch,
-            Edit::AddClass {
-                class: class(number),
-                parents: Parents::new(alloc, &[class(0)])?,
-            },
-        )?;
+    for number in 0..=LEAVES {
+        put(&mut batch, add_class(alloc, number)?)?;
     }
-    if let Some(arity) = Arity::new(2) {
-        put(
-            &mut batch,
-            Edit::AddSelector {
-                selector: selector(),
-                arity,
-            },
-        )?;
-    }
+    put_selector(&mut batch)?;
     Ok(batch)
 }
 
 // The batch of so many definitions.
-fn definitions(alloc: Global, count: u16) -> Result<Batch, NoMemory> {
+fn definitions(alloc: Global, count: u16) -> Result<Batch, Fault> {
     let mut batch = Batch::new(alloc);
     for number in 0..count {
         let (first, second) = leaves(number);
@@ -90,7 +90,7 @@ fn definitions(alloc: Global, count: u16) -> Result<Batch, NoMemory> {
 }
 
 // The program of a selector with so many definitions.
-fn program(alloc: Global, count: u16) -> Result<Program, NoMemory> {
+fn program(alloc: Global, count: u16) -> Result<Program, Fault> {
     let mut batches = Vec::new(alloc);
     batches.push(ground(alloc)?)?;
     batches.push(definitions(alloc, count)?)?;
@@ -107,7 +107,7 @@ fn time_edit(
     mix: &mut Mix,
 ) -> Result<(), Fault> {
     let watch = Stopwatch::start(rt)?;
-    let accepted = try_edit(program, edit)?;
+    let accepted = is_applied(program, edit)?;
     watch.stop(rt, table, metric, 1)?;
     mix.add(u32::from(accepted));
     Ok(())
@@ -124,7 +124,7 @@ fn time_definition(
     let (first, _) = leaves(count / 2);
     let (Some(edit), Some(classes)) = (
         define(first, 0, count),
-        Tuple::new(&[class(first), class(0)]),
+        Tuple::new(&[class_of(first), class_of(0)]),
     ) else {
         return Ok(());
     };
@@ -133,8 +133,26 @@ fn time_definition(
         classes,
     };
     for _ in 0..CHANGES {
-        time_edit(rt, table, Metric::Define, program, &edit, mix)?;
-        time_edit(rt, table, Metric::Undefine, program, &undo, mix)?;
+        time_edit(
+            rt,
+            table,
+            Metric::Edit {
+                kind: EditKind::Define,
+            },
+            program,
+            &edit,
+            mix,
+        )?;
+        time_edit(
+            rt,
+            table,
+            Metric::Edit {
+                kind: EditKind::Undefine,
+            },
+            program,
+            &undo,
+            mix,
+        )?;
     }
     Ok(())
 }
@@ -154,7 +172,14 @@ fn time_calls(
             mix.add(code_of(resolve(program, &query)));
         }
     }
-    watch.stop(rt, table, Metric::HitsOfTwo, u32::from(count).max(1))
+    watch.stop(
+        rt,
+        table,
+        Metric::Resolve {
+            kind: QueryKind::HitsOfTwo,
+        },
+        u32::from(count).max(1),
+    )
 }
 
 // Times a round.

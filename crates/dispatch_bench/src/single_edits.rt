@@ -1,9 +1,8 @@
-use crate::draws::Draws;
 use crate::edit_kind::EditKind;
-use crate::edits::{Trial, links, new_classes, redefines, undefines, unlinks};
-use crate::generator::put;
-use crate::size::Size;
-use dt_definitions::{Batch, Edit, NoMemory, Program};
+use crate::edits::{Trial, draw_trials};
+use crate::generated::Generated;
+use dt_definitions::{Batch, Edit, Program};
+use dt_trials::{Chance, Fault, put};
 use std::alloc::Global;
 
 /// Edits of a kind, each a batch of its own, that are accepted one after another, and the batches that undo them.
@@ -18,14 +17,14 @@ pub struct SingleEdits {
 }
 
 // The batch of this edit.
-fn single(alloc: Global, edit: Edit) -> Result<Batch, NoMemory> {
+fn single(alloc: Global, edit: Edit) -> Result<Batch, Fault> {
     let mut batch = Batch::new(alloc);
     put(&mut batch, edit)?;
     Ok(batch)
 }
 
 // The batches of these edits, each of one.
-fn singles(alloc: Global, edits: Vec<Edit>) -> Result<Vec<Batch>, NoMemory> {
+fn singles(alloc: Global, edits: Vec<Edit>) -> Result<Vec<Batch>, Fault> {
     let mut batches = Vec::new(alloc);
     for edit in edits {
         batches.push(single(alloc, edit)?)?;
@@ -33,28 +32,9 @@ fn singles(alloc: Global, edits: Vec<Edit>) -> Result<Vec<Batch>, NoMemory> {
     Ok(batches)
 }
 
-// Edits of the kind, as the rounds of a program draw them. What undoes a kind is drawn with it.
-fn draw_trial(
-    alloc: Global,
-    draws: &mut Draws,
-    size: Size,
-    batches: &[Batch],
-    program: &mut Program,
-    kind: EditKind,
-) -> Result<Trial, NoMemory> {
-    match kind {
-        EditKind::LeafRedefine => redefines(alloc, draws, size, batches, program, true),
-        EditKind::Redefine => redefines(alloc, draws, size, batches, program, false),
-        EditKind::Define | EditKind::Undefine => undefines(alloc, draws, size, batches, program),
-        EditKind::Link => links(alloc, draws, size, program),
-        EditKind::Unlink => unlinks(alloc, draws, size, batches, program),
-        EditKind::Class | EditKind::Drop => new_classes(alloc, draws, size, program),
-    }
-}
-
 // The edits of a trial, each a batch of its own.
-fn single_edits(alloc: Global, kind: EditKind, trial: Trial) -> Result<SingleEdits, NoMemory> {
-    let Trial { edits, undo } = trial;
+fn single_edits(alloc: Global, trial: Trial) -> Result<SingleEdits, Fault> {
+    let Trial { kind, edits, undo } = trial;
     let batches = singles(alloc, edits)?;
     let undo = singles(alloc, undo)?;
     Ok(SingleEdits {
@@ -67,22 +47,13 @@ fn single_edits(alloc: Global, kind: EditKind, trial: Trial) -> Result<SingleEdi
 /// Draws edits of each kind for this program, which is left as it is found.
 pub fn draw_single_edits(
     alloc: Global,
-    draws: &mut Draws,
-    size: Size,
-    batches: &[Batch],
+    chance: &mut Chance,
+    generated: &Generated,
     program: &mut Program,
-) -> Result<Vec<SingleEdits>, NoMemory> {
+) -> Result<Vec<SingleEdits>, Fault> {
     let mut all = Vec::new(alloc);
-    for kind in [
-        EditKind::LeafRedefine,
-        EditKind::Redefine,
-        EditKind::Undefine,
-        EditKind::Link,
-        EditKind::Unlink,
-        EditKind::Class,
-    ] {
-        let trial = draw_trial(alloc, draws, size, batches, program, kind)?;
-        all.push(single_edits(alloc, kind, trial)?)?;
+    for trial in draw_trials(alloc, chance, generated, program)? {
+        all.push(single_edits(alloc, trial)?)?;
     }
     Ok(all)
 }

@@ -1,4 +1,5 @@
-ghost use Rattle.dispatch_bench.specs.Size.{IsSize};
+ghost use Rattle.std.specs.Prelude.{◌<◌, ◌≤◌};
+ghost use Rattle.dt_script.specs.GeneratedSize.{IsSize};
 
 use dt_graph::CLASSES;
 use dt_selectors::SELECTORS;
@@ -21,5 +22,12 @@ impl Size {
             return None;
         }
         Some(Size { classes, selectors })
+    }
+
+    /// How many definitions a generated program has, some of which replace earlier ones.
+    pub fn definitions(self) -> u16
+        ensures { 0 < result }
+    {
+        3 * self.selectors
     }
 }

@@ -1,20 +1,50 @@
 ghost use Rattle.std.specs.Prelude.{◌<◌, ◌≤◌, ◌+◌};
 
 use crate::metric::Metric;
+use crate::queries::takes;
 use crate::table::Table;
 use dt_cells::place_address;
 use dt_definitions::{NoMemory, Program};
 use dt_pages::Tree;
-use dt_selectors::{SELECTORS, SelNo};
+use dt_selectors::SELECTORS;
 
-/// The cells of queries of one class begin here.
-pub const CELLS: u32 = 1 << 24;
+/// A part of a table.
+#[derive(Clone, Copy, Debug, PartialEq, Eq)]
+pub enum Region {
+    /// The cells of queries of one class, whatever the kind.
+    Single,
+    /// The cells of the master array.
+    Master,
+}
 
-// So many addresses are those of cells of queries of one class, whatever the kind.
-const CELL_NUMBERS: u32 = 1 << 24;
+impl Region {
+    /// The first address of its cells.
+    pub fn first(self) -> u32
+        ensures { result ≤ 67108864 }
+    {
+        match self {
+            Region::Single => 1 << 24,
+            Region::Master => 1 << 26,
+        }
+    }
 
-// The master array begins here, and so many addresses are those of its cells.
-const MASTER: u32 = 1 << 26;
+    // How many addresses are those of its cells.
+    fn addresses(self) -> u32
+        ensures { result ≤ 67108864 }
+    {
+        match self {
+            Region::Single => 1 << 24,
+            Region::Master => 1 << 26,
+        }
+    }
+
+    /// How many of its cells there are up to the last that is not 0.
+    pub fn spanned(self, tree: &Tree) -> u32
+        ensures { result ≤ 67108864 }
+    {
+        Cells::count(tree, self).spanned
+    }
+}
 
 /// The room that a table takes: its part for queries of one class, and the master array.
 #[derive(Clone, Copy, Debug)]
@@ -36,13 +66,13 @@ struct Cells {
     used: u32,
     // How many cells there are from the first address of the region to the last cell that is not 0.
     spanned: u32,
+    ghost in_range: { spanned ≤ 67108864 },
 }
 
 impl Cells {
-    // Counts the cells of so many addresses from the first on.
-    fn count(tree: &Tree, first: u32, addresses: u32) -> Cells
-        requires { first + addresses ≤ 134217728 }
-    {
+    // Counts the cells of a region.
+    fn count(tree: &Tree, region: Region) -> Cells {
+        let (first, addresses) = (region.first(), region.addresses());
         let mut used: u32 = 0;
         let mut spanned: u32 = 0;
         for number in 0..addresses {
@@ -55,24 +85,13 @@ impl Cells {
     }
 }
 
-// Whether the selector takes one argument.
-fn takes_one(program: &Program, selector: u16) -> bool {
-    match SelNo::new(selector) {
-        Some(selector) => match program.arity(selector) {
-            Some(arity) => arity.number() == 1,
-            None => false,
-        },
-        None => false,
-    }
-}
-
 // The greatest place word of the selectors that take one argument, and that of the others.
 fn highest_places(program: &Program, tree: &Tree) -> (u64, u64) {
     let mut one: u64 = 0;
     let mut more: u64 = 0;
     for selector in 0..SELECTORS {
         let place = tree.word(place_address(selector));
-        if takes_one(program, selector) {
+        if takes(program, selector, 1) {
             one = one.max(place);
         } else {
             more = more.max(place);
@@ -89,16 +108,11 @@ fn put_highest(table: &mut Table, metric: Metric, place: u64) -> Result<(), NoMe
     table.put(metric, place)
 }
 
-/// How many cells of queries of one class there are up to the last that is not 0.
-pub fn spanned_cells(tree: &Tree) -> u32 {
-    Cells::count(tree, CELLS, CELL_NUMBERS).spanned
-}
-
 impl Space {
     /// The room that the words of this tree take, which is that of the table of this program.
     pub fn of(program: &Program, tree: &Tree) -> Space {
-        let single = Cells::count(tree, CELLS, CELL_NUMBERS);
-        let master = Cells::count(tree, MASTER, MASTER);
+        let single = Cells::count(tree, Region::Single);
+        let master = Cells::count(tree, Region::Master);
         let (one, more) = highest_places(program, tree);
         // Where no cell is one of queries of one class, every place is one of the master array.
         let (highest_single, highest_master) = if single.used == 0 {

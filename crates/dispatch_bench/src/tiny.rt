@@ -1,22 +1,18 @@
 use crate::difference_rounds::{Found, count_all_changes, load_sized};
-use crate::draws::Draws;
+use crate::edits::{Trial, draw_trials};
 use crate::figures::Thousandths;
-use crate::generator::{draw_call, draw_program};
+use crate::generated::Generated;
 use crate::mix::{Mix, code_of};
-use crate::program_rounds::Workload;
-use crate::queries::is_hit;
+use crate::queries::{Queries, draw_all_queries, is_hit};
 use crate::shape::Shape;
 use crate::single_edits::{SingleEdits, draw_single_edits};
 use crate::size::Size;
 use crate::work::load;
-use dt_definitions::{Batch, NoMemory, Program};
+use dt_definitions::{Batch, Program};
 use dt_scratch::resolve;
-use dt_trials::Fault;
+use dt_trials::{Chance, Fault};
 use std::alloc::Global;
 use std::io;
-
-// How many calls are made.
-const CALLS: u32 = 1000;
 
 // What a generated program comes to, with nothing timed.
 #[derive(Clone, Copy, Debug, PartialEq, Eq)]
@@ -25,75 +21,83 @@ struct Counts {
     definitions: u32,
     // How many of the edits that are drawn are accepted.
     edits: usize,
-    // How many of the calls a method answers.
+    // How many of the calls that are drawn a method answers.
     hits: u32,
     // What the replies to the calls come to.
     mix: u32,
 }
 
-// Makes calls of the program: how many of them a method answers, and the mix of their replies.
-fn call(program: &Program, draws: &mut Draws, size: Size) -> (u32, Mix) {
-    let mut hits: u32 = 0;
-    let mut mix = Mix::new();
-    for _ in 0..CALLS {
-        let query = draw_call(draws, size);
-        mix.add(code_of(resolve(program, &query)));
-        if is_hit(program, &query) {
-            hits = hits.saturating_add(1);
+// Makes calls of the program: how many of them a method answers goes into `hits`, and the replies into the mix.
+fn call(program: &Program, queries: &Queries, hits: &mut u32, mix: &mut Mix) {
+    for query in &queries.calls {
+        mix.add(code_of(resolve(program, query)));
+        if is_hit(program, query) {
+            *hits = hits.saturating_add(1);
         }
     }
+}
+
+// Makes calls of each kind.
+fn call_all(program: &Program, all: &[Queries]) -> (u32, Mix) {
+    let mut hits: u32 = 0;
+    let mut mix = Mix::new();
+    for queries in all {
+        call(program, queries, &mut hits, &mut mix);
+    }
     (hits, mix)
+}
+
+// Draws calls of the program, and makes them.
+fn draw_and_call(
+    alloc: Global,
+    chance: &mut Chance,
+    generated: &Generated,
+    program: &Program,
+) -> Result<(u32, Mix), Fault> {
+    let all = draw_all_queries(alloc, chance, generated.size, program)?;
+    Ok(call_all(program, &all))
+}
+
+// How many edits there are.
+fn count_edits(trials: &[Trial]) -> usize {
+    let mut edits: usize = 0;
+    for trial in trials {
+        edits = edits.saturating_add(trial.edits.len());
+    }
+    edits
 }
 
 // Counts what a loaded program comes to.
 fn count_loaded(
     alloc: Global,
-    draws: &mut Draws,
-    size: Size,
-    batches: &[Batch],
+    chance: &mut Chance,
+    generated: &Generated,
     program: &mut Program,
-) -> Result<Counts, NoMemory> {
-    let (hits, mix) = call(program, draws, size);
-    let work = Workload::draw(alloc, draws, size, batches, program)?;
+) -> Result<Counts, Fault> {
+    let (hits, mix) = draw_and_call(alloc, chance, generated, program)?;
+    let trials = draw_trials(alloc, chance, generated, program)?;
     Ok(Counts {
         definitions: program.definitions(),
-        edits: work.edits(),
+        edits: count_edits(&trials),
         hits,
         mix: mix.number(),
     })
 }
 
-// Counts what the program of these batches comes to.
-fn count_batches(
-    alloc: Global,
-    draws: &mut Draws,
-    size: Size,
-    batches: &[Batch],
-) -> Result<Counts, NoMemory> {
-    let mut program = load(alloc, batches)?;
-    count_loaded(alloc, draws, size, batches, &mut program)
+// Counts what a generated program comes to.
+fn count(alloc: Global, generated: &Generated) -> Result<Counts, Fault> {
+    let mut program = load(alloc, &generated.batches)?;
+    count_loaded(alloc, &mut Chance::new(1), generated, &mut program)
 }
 
-// Counts what the generated program of this number and size comes to.
-fn count(alloc: Global, number: u64, size: Size) -> Result<Counts, NoMemory> {
-    let mut draws = Draws::new(number);
-    let batches = draw_program(alloc, &mut draws, size)?;
-    count_batches(alloc, &mut draws, size, &batches)
-}
-
-// Draws edits of each kind for the program of these batches.
-fn draw_edits(
-    alloc: Global,
-    draws: &mut Draws,
-    size: Size,
-    batches: &[Batch],
-) -> Result<Vec<SingleEdits>, NoMemory> {
-    let mut program = load(alloc, batches)?;
-    draw_single_edits(alloc, draws, size, batches, &mut program)
+// Draws edits of each kind for the program.
+fn draw_edits(alloc: Global, generated: &Generated) -> Result<Vec<SingleEdits>, Fault> {
+    let mut program = load(alloc, &generated.batches)?;
+    draw_single_edits(alloc, &mut Chance::new(1), generated, &mut program)
 }
 
 // Finds what these edits of the program of these batches change, and what undoes them.
-fn find_changes(alloc: Global, batches: &[Batch], all: &[SingleEdits]) -> Result<Found, NoMemory> {
+fn find_changes(alloc: Global, batches: &[Batch], all: &[SingleEdits]) -> Result<Found, Fault> {
     let mut programs = load_sized(alloc, batches)?;
     let mut found = Found::none();
     for edits in all {
@@ -103,19 +107,17 @@ fn find_changes(alloc: Global, batches: &[Batch], all: &[SingleEdits]) -> Result
     Ok(found)
 }
 
-// Finds what edits that are drawn change in the generated program of this number and size.
-fn draw_changes(alloc: Global, number: u64, size: Size) -> Result<Found, NoMemory> {
-    let mut draws = Draws::new(number);
-    let batches = draw_program(alloc, &mut draws, size)?;
-    let edits = draw_edits(alloc, &mut draws, size, &batches)?;
-    find_changes(alloc, &batches, &edits)
+// Finds what edits that are drawn change in a generated program.
+fn draw_changes(alloc: Global, generated: &Generated) -> Result<Found, Fault> {
+    let edits = draw_edits(alloc, generated)?;
+    find_changes(alloc, &generated.batches, &edits)
 }
 
 // Prints the first draws from 1, and how figures are written.
 fn print_draws(rt: &impl Print) -> io::Result<()> {
-    let mut draws = Draws::new(1);
-    let (first, second, third) = (draws.draw(100), draws.draw(4), draws.draw(4096));
-    let (fourth, fifth) = (draws.draw(2048), draws.draw(7));
+    let mut chance = Chance::new(1);
+    let (first, second, third) = (chance.below(100), chance.below(4), chance.below(4096));
+    let (fourth, fifth) = (chance.below(2048), chance.below(7));
     println!(rt; "draws from 1 | {first} {second} {third} {fourth} {fifth}")?;
     let (zero, small) = (Thousandths { count: 0 }, Thousandths { count: 7 });
     let large = Thousandths { count: 1_234_567 };
@@ -123,18 +125,22 @@ fn print_draws(rt: &impl Print) -> io::Result<()> {
 }
 
 // Prints what a tiny program comes to.
-fn print_program<R: Print + AllocGlobal>(rt: &R, number: u64, size: Size) -> Result<(), Fault> {
+fn print_counted<R: Print + AllocGlobal>(
+    rt: &R,
+    number: u32,
+    generated: &Generated,
+) -> Result<(), Fault> {
     let Counts {
         definitions,
         edits,
         hits,
         mix,
-    } = count(rt.alloc(), number, size)?;
+    } = count(rt.alloc(), generated)?;
     let Size {
         classes,
         selectors,
         ..
-    } = size;
+    } = generated.size;
     println!(rt;
         "program {number} {classes}/{selectors} | definitions {definitions} | edits accepted {edits} | hits {hits} | mix {mix}"
     )?;
@@ -142,13 +148,24 @@ fn print_program<R: Print + AllocGlobal>(rt: &R, number: u64, size: Size) -> Res
 }
 
 // Prints what edits of a tiny program change.
-fn print_changes<R: Print + AllocGlobal>(rt: &R, number: u64, size: Size) -> Result<(), Fault> {
-    let found = draw_changes(rt.alloc(), number, size)?;
+fn print_changes<R: Print + AllocGlobal>(
+    rt: &R,
+    number: u32,
+    generated: &Generated,
+) -> Result<(), Fault> {
+    let found = draw_changes(rt.alloc(), generated)?;
     let (edits, changes, steps) = (found.edits, found.changes, found.steps);
     println!(rt;
         "changes of program {number} | edits {edits} | changes {changes} | steps {steps}"
     )?;
     Ok(())
+}
+
+// Prints the tiny program of this number and size.
+fn print_program<R: Print + AllocGlobal>(rt: &R, number: u32, size: Size) -> Result<(), Fault> {
+    let generated = Generated::new(rt.alloc(), number, size)?;
+    print_counted(rt, number, &generated)?;
+    print_changes(rt, number, &generated)
 }
 
 // Prints what a small graph comes to: how many classes are at or below the one in the middle, and whether its link in
@@ -169,7 +186,6 @@ fn print_programs<R: Print + AllocGlobal>(rt: &R) -> Result<(), Fault> {
     for (number, classes, selectors) in [(1, 20, 10), (7, 60, 120)] {
         if let Some(size) = Size::new(classes, selectors) {
             print_program(rt, number, size)?;
-            print_changes(rt, number, size)?;
         }
     }
     Ok(())

@@ -1,31 +1,28 @@
-use crate::draws::Draws;
 use crate::edits::redefining_batch;
-use crate::generator::draw_program;
+use crate::generated::Generated;
 use crate::metric::Metric;
 use crate::program_rounds::ROUNDS;
-use crate::size::Size;
 use crate::stopwatch::Stopwatch;
 use crate::table::Table;
-use dt_definitions::{Batch, BatchFault, NoMemory, TwoPrograms};
-use dt_trials::Fault;
+use dt_definitions::{Batch, BatchFault, TwoPrograms};
+use dt_trials::{Chance, Fault};
 use std::alloc::Global;
 use std::rt::Clock;
 
 // Tries the batch. Where it is refused nothing is tried.
-fn try_batch(two: &mut TwoPrograms, batch: Batch) -> Result<(), NoMemory> {
+fn try_batch(two: &mut TwoPrograms, batch: Batch) -> Result<(), Fault> {
     two.refuse();
     match two.try_batch(batch) {
         Ok(()) | Err(BatchFault::Refused { .. }) => Ok(()),
-        Err(BatchFault::NoMemory) => Err(NoMemory),
+        Err(BatchFault::NoMemory) => Err(Fault::NoMemory),
     }
 }
 
-// The two programs of this number and size.
-fn load_two(alloc: Global, number: u64, size: Size) -> Result<TwoPrograms, NoMemory> {
-    let batches = draw_program(alloc, &mut Draws::new(number), size)?;
+// The two programs that these batches make.
+fn load_two(alloc: Global, batches: &[Batch]) -> Result<TwoPrograms, Fault> {
     let mut two = TwoPrograms::new(alloc)?;
     for batch in batches {
-        try_batch(&mut two, batch)?;
+        try_batch(&mut two, batch.copy()?)?;
         two.accept();
     }
     Ok(two)
@@ -36,11 +33,10 @@ fn time_tried<R: Clock + AllocGlobal>(
     rt: &R,
     table: &mut Table,
     two: &mut TwoPrograms,
-    draws: &mut Draws,
-    size: Size,
-    batches: &[Batch],
+    chance: &mut Chance,
+    generated: &Generated,
 ) -> Result<(), Fault> {
-    let batch = redefining_batch(rt.alloc(), draws, size, batches)?;
+    let batch = redefining_batch(rt.alloc(), chance, generated)?;
     let watch = Stopwatch::start(rt)?;
     try_batch(two, batch)?;
     two.refuse();
@@ -51,14 +47,12 @@ fn time_tried<R: Clock + AllocGlobal>(
 pub fn time_trials<R: Clock + AllocGlobal>(
     rt: &R,
     table: &mut Table,
-    draws: &mut Draws,
-    number: u64,
-    size: Size,
-    batches: &[Batch],
+    chance: &mut Chance,
+    generated: &Generated,
 ) -> Result<(), Fault> {
-    let mut two = load_two(rt.alloc(), number, size)?;
+    let mut two = load_two(rt.alloc(), &generated.batches)?;
     for _ in 0..ROUNDS {
-        time_tried(rt, table, &mut two, draws, size, batches)?;
+        time_tried(rt, table, &mut two, chance, generated)?;
     }
     Ok(())
 }

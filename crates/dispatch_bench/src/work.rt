@@ -1,19 +1,20 @@
 use crate::mix::{Mix, code_of};
-use dt_definitions::{ApplyFault, Batch, BatchFault, ClassGraph, ClassNo, Edit, NoMemory, Program};
+use dt_definitions::{Batch, BatchFault, ClassGraph, ClassNo, Edit, Program};
 use dt_scratch::{Query, resolve};
+use dt_trials::{Fault, is_applied};
 use std::alloc::Global;
 
 // Applies a batch. Where it is refused the program is as it was.
-fn step_batch(program: &mut Program, batch: &Batch) -> Result<(), NoMemory> {
+fn step_batch(program: &mut Program, batch: &Batch) -> Result<(), Fault> {
     match program.apply_batch(batch) {
         Ok(()) => Ok(()),
         Err(BatchFault::Refused { .. }) => Ok(()),
-        Err(BatchFault::NoMemory) => Err(NoMemory),
+        Err(BatchFault::NoMemory) => Err(Fault::NoMemory),
     }
 }
 
 /// The program that these batches make.
-pub fn load(alloc: Global, batches: &[Batch]) -> Result<Program, NoMemory> {
+pub fn load(alloc: Global, batches: &[Batch]) -> Result<Program, Fault> {
     let mut program = Program::new(alloc)?;
     for batch in batches {
         step_batch(&mut program, batch)?;
@@ -21,20 +22,11 @@ pub fn load(alloc: Global, batches: &[Batch]) -> Result<Program, NoMemory> {
     Ok(program)
 }
 
-/// Applies an edit, and tells whether it was accepted. Where it is refused the program is as it was.
-pub fn try_edit(program: &mut Program, edit: &Edit) -> Result<bool, NoMemory> {
-    match program.apply(edit) {
-        Ok(()) => Ok(true),
-        Err(ApplyFault::Refused { .. }) => Ok(false),
-        Err(ApplyFault::NoMemory) => Err(NoMemory),
-    }
-}
-
 /// Applies the edits in order, and answers how many were accepted.
-pub fn apply_all(program: &mut Program, edits: &[Edit]) -> Result<u32, NoMemory> {
+pub fn apply_all(program: &mut Program, edits: &[Edit]) -> Result<u32, Fault> {
     let mut accepted: u32 = 0;
     for edit in edits {
-        if try_edit(program, edit)? {
+        if is_applied(program, edit)? {
             accepted = accepted.saturating_add(1);
         }
     }

@@ -1,9 +1,0 @@
-use Rattle.dispatch_bench.proofs.Drawing.{state_wraps, number_of_shifted}
-use Rattle.dispatch_bench.specs.Draw.{next_state}
-use Rattle.dispatch_bench.proofs.draws.Draws.draw.Goals as goal
-
-pub returns-clause-value : goal.returns-clause-value
-returns-clause-value c = cc (state_wraps c.self.inside.state, number_of_shifted (next_state c.self.inside.state) c.args.bound)
-
-pub returns-clause-state : goal.returns-clause-state
-returns-clause-state c = cc (state_wraps c.self.inside.state)

@@ -1,3 +1,0 @@
-pub mod Size
-pub mod Draw
-pub mod Generator
