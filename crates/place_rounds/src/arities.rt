@@ -7,6 +7,8 @@ pub enum Arities {
     MostlyOne,
     /// One to four.
     OneToFour,
+    /// One, one time in two; else two to four.
+    HalfOne,
 }
 
 impl Arities {
@@ -15,6 +17,7 @@ impl Arities {
         match self {
             Arities::MostlyOne => draw_mostly_one(chance),
             Arities::OneToFour => draw_one_to_four(chance),
+            Arities::HalfOne => draw_half_one(chance),
         }
     }
 }
@@ -30,6 +33,16 @@ fn draw_one_to_four(chance: &mut Chance) -> u8 {
         0 | 1 => 1,
         2..=4 => 2,
         5 | 6 => 3,
+        _ => 4,
+    }
+}
+
+// One, one time in two; else two to four.
+fn draw_half_one(chance: &mut Chance) -> u8 {
+    match chance.below(8) {
+        0..=3 => 1,
+        4 | 5 => 2,
+        6 => 3,
         _ => 4,
     }
 }

@@ -1,6 +1,7 @@
 use crate::image::{ADDRESSES, Image, count_words};
 use crate::indexed::lay_indexed;
 use crate::met::Met;
+use crate::parts::Parts;
 use crate::placing::{Placing, lay_classes};
 use crate::rows::Rows;
 use crate::rules::{Rules, Singles};
@@ -16,6 +17,7 @@ pub struct Beside {
     /// The program.
     pub program: Program,
     placed: Placed,
+    parts: Parts,
     image: Image,
 }
 
@@ -39,6 +41,11 @@ fn nothing_placed(alloc: Global, rules: &Rules) -> Result<Placed, Fault> {
     })
 }
 
+// Whether the selectors of one argument have cells of their own, and the others rows in the master array.
+fn is_pair(rules: &Rules) -> bool {
+    rules.least == 2
+}
+
 // Whether the selectors of one argument have places.
 fn is_placed(rules: &Rules) -> bool {
     matches!(rules.singles, Singles::Placed { .. })
@@ -53,6 +60,7 @@ impl Beside {
             rules: *rules,
             program,
             placed,
+            parts: Parts::new(),
             image: Image::new(alloc, &rules.blocks)?,
         })
     }
@@ -70,6 +78,10 @@ impl Beside {
         }
         if self.rules.least <= 4 {
             self.placed.rows.follow(&self.program, &mut met.rows);
+        }
+        if is_pair(&self.rules) {
+            self.parts
+                .follow(&self.program, &self.placed.rows, &mut met.rows);
         }
     }
 

@@ -41,15 +41,37 @@ pub enum Known {
         classes: [u16; 2],
         body: u16,
     },
+    /// A definition goes.
+    Undefine {
+        selector: u16,
+        class: u16,
+    },
+    /// A definition of a selector of two arguments goes.
+    UndefineAtTwo {
+        selector: u16,
+        classes: [u16; 2],
+    },
+    /// A selector goes.
+    Forget {
+        number: u16,
+    },
 }
 
-// A class that comes with these parents.
-fn class_edit(alloc: Global, number: u16, parents: &[ClassNo]) -> Result<Edit, Fault> {
+// Puts last that a class comes with these parents.
+fn put_class(
+    alloc: Global,
+    batch: &mut Batch,
+    number: u16,
+    parents: &[ClassNo],
+) -> Result<(), Fault> {
     let parents = Parents::new(alloc, parents)?;
-    Ok(Edit::AddClass {
-        class: class(number),
-        parents,
-    })
+    put(
+        batch,
+        Edit::AddClass {
+            class: class(number),
+            parents,
+        },
+    )
 }
 
 // A selector of so many arguments that comes.
@@ -82,16 +104,35 @@ fn define_at_two(number: u16, at: [u16; 2], body: u16) -> Option<Edit> {
     })
 }
 
-// The edit.
-fn edit_of(alloc: Global, known: Known) -> Result<Option<Edit>, Fault> {
-    Ok(match known {
-        Known::Class { number } => Some(class_edit(alloc, number, &[])?),
-        Known::Below {
-            number,
-            first,
-            second,
-        } => Some(class_edit(alloc, number, &[class(first), class(second)])?),
-        Known::Under { number, parent } => Some(class_edit(alloc, number, &[class(parent)])?),
+// A definition that goes.
+fn undefine_edit(number: u16, at: u16) -> Option<Edit> {
+    let classes = Tuple::new(&[class(at)])?;
+    Some(Edit::Undefine {
+        selector: selector(number),
+        classes,
+    })
+}
+
+// A definition of a selector of two arguments that goes.
+fn undefine_at_two(number: u16, at: [u16; 2]) -> Option<Edit> {
+    let [first, second] = at;
+    let classes = Tuple::new(&[class(first), class(second)])?;
+    Some(Edit::Undefine {
+        selector: selector(number),
+        classes,
+    })
+}
+
+// A selector that goes.
+fn forget_edit(number: u16) -> Edit {
+    Edit::DropSelector {
+        selector: selector(number),
+    }
+}
+
+// The edit, where it is of a selector.
+fn selector_edit_of(known: Known) -> Option<Edit> {
+    match known {
         Known::Selector { number } => selector_edit(number, 1),
         Known::SelectorOfTwo { number } => selector_edit(number, 2),
         Known::Define {
@@ -104,14 +145,32 @@ fn edit_of(alloc: Global, known: Known) -> Result<Option<Edit>, Fault> {
             classes,
             body,
         } => define_at_two(selector, classes, body),
-    })
+        Known::Undefine { selector, class } => undefine_edit(selector, class),
+        Known::UndefineAtTwo { selector, classes } => undefine_at_two(selector, classes),
+        Known::Forget { number } => Some(forget_edit(number)),
+        _ => None,
+    }
+}
+
+// Puts the edit last, where it is of a selector.
+fn put_selector_edit(batch: &mut Batch, known: Known) -> Result<(), Fault> {
+    match selector_edit_of(known) {
+        Some(edit) => put(batch, edit),
+        None => Ok(()),
+    }
 }
 
 // Puts the edit last.
 fn put_known(alloc: Global, batch: &mut Batch, known: Known) -> Result<(), Fault> {
-    match edit_of(alloc, known)? {
-        Some(edit) => put(batch, edit),
-        None => Ok(()),
+    match known {
+        Known::Class { number } => put_class(alloc, batch, number, &[]),
+        Known::Below {
+            number,
+            first,
+            second,
+        } => put_class(alloc, batch, number, &[class(first), class(second)]),
+        Known::Under { number, parent } => put_class(alloc, batch, number, &[class(parent)]),
+        _ => put_selector_edit(batch, known),
     }
 }
 

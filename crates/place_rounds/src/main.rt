@@ -1,6 +1,6 @@
-//! The program `place_rounds`: all words of the tables by selector colouring, by row displacement and by multiple row
-//! displacement, after each batch, beside those of a plain placing, on programs and batches by chance; and the words of
-//! three programs that are known.
+//! The program `place_rounds`: all words of the tables by selector colouring, by row displacement, by multiple row
+//! displacement and by the pairs that it makes with each kind for one argument, after each batch, beside those of a plain
+//! placing, on programs and batches by chance; and the words of four programs that are known.
 #![tactic(auto)]
 
 mod arities;
@@ -11,6 +11,7 @@ mod image;
 mod indexed;
 mod made;
 mod met;
+mod parts;
 mod placing;
 mod prefixes;
 mod rounds;
@@ -31,7 +32,7 @@ use dt_trials::Fault;
 use met::Met;
 use rounds::play;
 use rows_met::RowsMet;
-use rules::{ALL_ALONG, BESIDE_INDEXED, BESIDE_ROWS, COLOURS, ROWS};
+use rules::{ALL_ALONG, BESIDE_COLOURS, BESIDE_INDEXED, BESIDE_ROWS, COLOURS, ROWS};
 use std::io;
 use std::process::ExitCode;
 use worked::print_worked;
@@ -83,36 +84,72 @@ fn print_turns(rt: &impl Print, met: &RowsMet) -> io::Result<()> {
     )
 }
 
-// Prints what was met under a kind with rows in the master array.
-fn print_rows_met(rt: &impl Print, name: &str, met: &Met) -> io::Result<()> {
+// Prints the batches that were met under a kind with rows in the master array.
+fn print_batches(rt: &impl Print, name: &str, met: &Met) -> io::Result<()> {
     let Met {
         committed,
         refused,
+        ..
+    } = *met;
+    let arities = met.rows.arities;
+    println!(rt;
+        "{name} | batches committed {committed} | refused {refused} | other arities {arities}"
+    )
+}
+
+// Prints the selectors that went from one part of a pair to the other.
+fn print_parts(rt: &impl Print, met: &RowsMet) -> io::Result<()> {
+    let RowsMet {
+        parts: [forth, back],
+        with_cells: [cells_forth, cells_back],
+        ..
+    } = *met;
+    println!(rt;
+        "  selectors to the second part {forth}, with cells in both {cells_forth} | back {back}, with cells in both {cells_back}"
+    )
+}
+
+// Prints how many words were compared.
+fn print_compared(rt: &impl Print, met: &Met) -> io::Result<()> {
+    let Met {
         compared,
         wrong,
         ..
     } = *met;
-    let RowsMet {
-        arities,
-        parts: [forth, back],
-        ..
-    } = met.rows;
-    println!(rt;
-        "{name} | batches committed {committed} | refused {refused} | other arities {arities}, from the first part {forth}, back {back}"
-    )?;
-    print_turns(rt, &met.rows)?;
     println!(rt; "  words compared {compared} | told wrongly {wrong}")
+}
+
+// Prints what was met under multiple row displacement alone.
+fn print_along(rt: &impl Print, name: &str, met: &Met) -> io::Result<()> {
+    print_batches(rt, name, met)?;
+    print_turns(rt, &met.rows)?;
+    print_compared(rt, met)
+}
+
+// Prints what was met under a pair.
+fn print_pair(rt: &impl Print, name: &str, met: &Met) -> io::Result<()> {
+    print_batches(rt, name, met)?;
+    print_parts(rt, &met.rows)?;
+    print_turns(rt, &met.rows)?;
+    print_compared(rt, met)
+}
+
+// Plays and prints the pairs.
+fn run_pairs<R: Print + AllocGlobal>(rt: &R) -> Result<(), Fault> {
+    let indexed = play::<Pair<Sti, Mrd>>(rt.alloc(), &BESIDE_INDEXED)?;
+    print_pair(rt, "multiple rows beside indexing", &indexed)?;
+    let colours = play::<Pair<Colour, Mrd>>(rt.alloc(), &BESIDE_COLOURS)?;
+    print_pair(rt, "multiple rows beside colours", &colours)?;
+    let rows = play::<Pair<Row, Mrd>>(rt.alloc(), &BESIDE_ROWS)?;
+    print_pair(rt, "multiple rows beside rows", &rows)?;
+    Ok(())
 }
 
 // Plays and prints the kinds with rows in the master array.
 fn run_rows<R: Print + AllocGlobal>(rt: &R) -> Result<(), Fault> {
     let along = play::<Mrd>(rt.alloc(), &ALL_ALONG)?;
-    print_rows_met(rt, "multiple rows", &along)?;
-    let indexed = play::<Pair<Sti, Mrd>>(rt.alloc(), &BESIDE_INDEXED)?;
-    print_rows_met(rt, "multiple rows beside indexing", &indexed)?;
-    let rows = play::<Pair<Row, Mrd>>(rt.alloc(), &BESIDE_ROWS)?;
-    print_rows_met(rt, "multiple rows beside rows", &rows)?;
-    Ok(())
+    print_along(rt, "multiple rows", &along)?;
+    run_pairs(rt)
 }
 
 // Plays and prints all.

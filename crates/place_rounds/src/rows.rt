@@ -324,6 +324,11 @@ impl Rows {
         })
     }
 
+    /// Whether a selector has rows.
+    pub fn has_row(&self, selector_place: usize) -> bool {
+        number_at(&self.array.words, row_number(selector_place, 0)) != 0
+    }
+
     // Follows how many arguments the selectors take.
     fn follow_arities(&mut self, program: &Program, met: &mut RowsMet) {
         let least = self.least;

@@ -1,3 +1,5 @@
+use crate::parts::Part;
+
 /// What became of a row that some query leads otherwise than before.
 #[derive(Clone, Copy, Debug, PartialEq, Eq)]
 pub enum RowTurn {
@@ -36,6 +38,8 @@ pub struct RowsMet {
     pub arities: u32,
     /// The selectors that went from the first part of a pair to the second, and back.
     pub parts: [u32; 2],
+    /// Those of them that had cells in the part that they left, and have cells in the other.
+    pub with_cells: [u32; 2],
     /// The rows of prefixes of no class, of one, two and three that had a turn.
     pub lengths: [u32; 4],
     /// The highest displacement.
@@ -82,6 +86,16 @@ impl RowsMet {
             (false, true) => self.parts = [forth.saturating_add(1), back],
             (true, false) => self.parts = [forth, back.saturating_add(1)],
             (false, false) => {}
+        }
+    }
+
+    /// Takes in the parts in which a selector had cells before and has cells now.
+    pub fn add_part(&mut self, before: Part, now: Part) {
+        let [forth, back] = self.with_cells;
+        match (before, now) {
+            (Part::First, Part::Second) => self.with_cells = [forth.saturating_add(1), back],
+            (Part::Second, Part::First) => self.with_cells = [forth, back.saturating_add(1)],
+            _ => {}
         }
     }
 }

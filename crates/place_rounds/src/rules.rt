@@ -60,10 +60,19 @@ pub const ALL_ALONG: Rules = Rules {
 pub const BESIDE_INDEXED: Rules = Rules {
     singles: Singles::Indexed,
     least: 2,
-    arities: Arities::OneToFour,
+    arities: Arities::HalfOne,
     blocks: [
         0, 1, 2, 3, 4, 63, 64, 77, 1000, 2048, 4094, 4095, 5, 62, 65, 4093,
     ],
+    programs: 8,
+};
+
+/// Selector colouring, and multiple row displacement for queries of two classes and more.
+pub const BESIDE_COLOURS: Rules = Rules {
+    singles: Singles::Placed { width: 2048 },
+    least: 2,
+    arities: Arities::HalfOne,
+    blocks: FIRST_BLOCKS,
     programs: 8,
 };
 
@@ -71,7 +80,7 @@ pub const BESIDE_INDEXED: Rules = Rules {
 pub const BESIDE_ROWS: Rules = Rules {
     singles: Singles::Placed { width: 1 },
     least: 2,
-    arities: Arities::OneToFour,
+    arities: Arities::HalfOne,
     blocks: FIRST_BLOCKS,
     programs: 8,
 };

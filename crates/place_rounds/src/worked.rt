@@ -63,6 +63,40 @@ const AT_THE_SECOND: [Known; 1] = [Known::Define {
     body: 2,
 }];
 
+// The second selector of these is another from now on: it takes two arguments.
+const FORTH: [Known; 4] = [
+    Known::Undefine {
+        selector: 1,
+        class: 0,
+    },
+    Known::Forget { number: 1 },
+    Known::SelectorOfTwo { number: 1 },
+    Known::DefineAtTwo {
+        selector: 1,
+        classes: [0, 1],
+        body: 2,
+    },
+];
+
+// It takes one argument again, and the first selector has no definition any more.
+const BACK: [Known; 5] = [
+    Known::Undefine {
+        selector: 0,
+        class: 0,
+    },
+    Known::UndefineAtTwo {
+        selector: 1,
+        classes: [0, 1],
+    },
+    Known::Forget { number: 1 },
+    Known::Selector { number: 1 },
+    Known::Define {
+        selector: 1,
+        class: 0,
+        body: 1,
+    },
+];
+
 // Two classes below a third, and a selector of two arguments that is defined at the third and the second of them, and the
 // other way round.
 const COLLIDE: [Known; 6] = [
@@ -201,10 +235,30 @@ fn print_master<K: TableKind, R: Print + AllocGlobal>(rt: &R, name: &str) -> Res
     Ok(())
 }
 
-/// Prints all words of three small programs, of two of them before and after a selector moves, and a few replies.
+// A selector that goes from the first part of a pair to the second, and back: it is given the lowest colour then, though
+// nothing is in the way at the one that it had.
+fn print_parts<R: Print + AllocGlobal>(rt: &R) -> Result<(), Fault> {
+    let mut tabled = Tabled::<Pair<Colour, Mrd>>::new(rt.alloc())?;
+    show(
+        rt,
+        &mut tabled,
+        "multiple rows beside colours, a class understands both selectors",
+        &TOGETHER,
+    )?;
+    show_both(
+        rt,
+        &mut tabled,
+        ("multiple rows beside colours, the second takes two", &FORTH),
+        ("multiple rows beside colours, it takes one again", &BACK),
+        &[(0, 0), (1, 0), (1, 1)],
+    )
+}
+
+/// Prints all words of four small programs, of three of them before and after a selector moves, and a few replies.
 pub fn print_worked<R: Print + AllocGlobal>(rt: &R) -> Result<(), Fault> {
     print_colours(rt)?;
     print_rows(rt)?;
     print_master::<Mrd, R>(rt, "multiple rows, two arguments")?;
-    print_master::<Pair<Sti, Mrd>, R>(rt, "multiple rows beside indexing, two arguments")
+    print_master::<Pair<Sti, Mrd>, R>(rt, "multiple rows beside indexing, two arguments")?;
+    print_parts(rt)
 }

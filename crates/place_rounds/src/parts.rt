@@ -1,0 +1,53 @@
+use crate::cells::{cells_of, is_some};
+use crate::rows::Rows;
+use crate::rows_met::RowsMet;
+use crate::small::SELECTOR_NUMBERS;
+use dt_definitions::Program;
+
+/// The part of a pair in which a selector has cells.
+#[derive(Clone, Copy, Debug, PartialEq, Eq)]
+pub enum Part {
+    /// None.
+    Neither,
+    /// That of queries of one class.
+    First,
+    /// That of queries of two classes and more.
+    Second,
+}
+
+/// The parts in which the selectors of a small program have cells, in the order of their numbers.
+#[derive(Clone, Copy, Debug)]
+pub struct Parts {
+    parts: [Part; 12],
+}
+
+// The part in which a selector has cells.
+fn part_of(program: &Program, rows: &Rows, selector_place: usize, number: u16) -> Part {
+    if rows.has_row(selector_place) {
+        Part::Second
+    } else if is_some(&cells_of(program, number)) {
+        Part::First
+    } else {
+        Part::Neither
+    }
+}
+
+impl Parts {
+    /// No selector has cells.
+    pub fn new() -> Parts {
+        Parts {
+            parts: [Part::Neither; 12],
+        }
+    }
+
+    /// Follows the program, whose rows are these.
+    pub fn follow(&mut self, program: &Program, rows: &Rows, met: &mut RowsMet) {
+        let mut selector_place: usize = 0;
+        for (part, number) in self.parts.iter_mut().zip(SELECTOR_NUMBERS.iter()) {
+            let now = part_of(program, rows, selector_place, *number);
+            met.add_part(*part, now);
+            *part = now;
+            selector_place = selector_place.saturating_add(1);
+        }
+    }
+}
