@@ -75,27 +75,37 @@ fn writes_all<H: Threads + Sync + AllocGlobal>(rt: &H, words: &ArgWords) -> Opti
     Some(is_done && text.as_slice() == REPLIES.as_bytes())
 }
 
-fn readers_hold<H: Threads + Sync + AllocGlobal>(rt: &H, words: &ArgWords) -> Option<bool> {
+fn reads_all<H: Threads + Sync + AllocGlobal>(rt: &H, words: &ArgWords) -> Option<bool> {
     let mut whole = StdSource::new(OVERRIDE.as_bytes());
-    let mut broken = StdSource::new(Broken);
-    Some(
-        reads_so(rt, words, &mut whole, Status::Done, REPLIES)?
-            && reads_so(rt, words, &mut broken, Status::ReadFault, "fault read\n")?,
-    )
+    reads_so(rt, words, &mut whole, Status::Done, REPLIES)
 }
 
-fn writers_hold<H: Threads + Sync + AllocGlobal>(rt: &H, words: &ArgWords) -> Option<bool> {
+fn reads_broken<H: Threads + Sync + AllocGlobal>(rt: &H, words: &ArgWords) -> Option<bool> {
+    let mut broken = StdSource::new(Broken);
+    reads_so(rt, words, &mut broken, Status::ReadFault, "fault read\n")
+}
+
+fn writes_broken<H: Threads + Sync + AllocGlobal>(rt: &H, words: &ArgWords) -> Option<bool> {
     let mut broken = StdSink::new(Broken);
+    writes_so(rt, words, &mut broken, Status::WriteFault)
+}
+
+fn writes_full<H: Threads + Sync + AllocGlobal>(rt: &H, words: &ArgWords) -> Option<bool> {
     let mut full = StdSink::new(Full);
-    Some(
-        writes_so(rt, words, &mut broken, Status::WriteFault)?
-            && writes_so(rt, words, &mut full, Status::WriteFault)?,
-    )
+    writes_so(rt, words, &mut full, Status::WriteFault)
+}
+
+fn hold<H: Threads + Sync + AllocGlobal>(rt: &H, words: &ArgWords) -> bool {
+    reads_all(rt, words) == Some(true)
+        && reads_broken(rt, words) == Some(true)
+        && writes_broken(rt, words) == Some(true)
+        && writes_full(rt, words) == Some(true)
+        && writes_all(rt, words) == Some(true)
 }
 
 fn all_hold<H: Threads + Sync + AllocGlobal>(rt: &H) -> Option<bool> {
     let words = words(rt.alloc())?;
-    Some(readers_hold(rt, &words)? && writers_hold(rt, &words)? && writes_all(rt, &words)?)
+    Some(hold(rt, &words))
 }
 
 #[test]

@@ -98,6 +98,21 @@ fn each_fails<H: Threads + Sync + AllocGlobal>(
         && none_is_late(rt, words, step, reads, puts)
 }
 
+// Whether a run over this source, whose first put that fails is this one, ends well.
+fn is_done<H: Threads + Sync + AllocGlobal>(
+    rt: &H,
+    words: &ArgWords,
+    source: &mut ListSource,
+    step: u32,
+    put: u32,
+) -> Option<bool>
+    requires { 0 < step }
+{
+    let mut sink = sink(rt.alloc(), step, put)?;
+    let status = status_of(rt, rt.alloc(), words, source, &mut sink, &OpenTurnstile);
+    Some(status == Status::Done && sink.bytes() == REPLIES.as_bytes())
+}
+
 // Whether a run whose first fault would come after its last call ends well.
 fn none_is_late<H: Threads + Sync + AllocGlobal>(
     rt: &H,
@@ -108,20 +123,11 @@ fn none_is_late<H: Threads + Sync + AllocGlobal>(
 ) -> bool
     requires { 0 < step }
 {
-    let source = source(rt.alloc(), step, reads.saturating_add(1));
-    let sink = sink(rt.alloc(), step, puts.saturating_add(1));
-    let (Some(mut source), Some(mut sink)) = (source, sink) else {
-        return false;
-    };
-    let status = status_of(
-        rt,
-        rt.alloc(),
-        words,
-        &mut source,
-        &mut sink,
-        &OpenTurnstile,
-    );
-    status == Status::Done && sink.bytes() == REPLIES.as_bytes()
+    match source(rt.alloc(), step, reads.saturating_add(1)) {
+        Some(mut source) => is_done(rt, words, &mut source, step, puts.saturating_add(1))
+            == Some(true),
+        None => false,
+    }
 }
 
 // Whether both the first read and the first put fail as is wanted.

@@ -331,12 +331,23 @@ fn fill(
     define_some(alloc, program, second, chance)
 }
 
+// Whether both answer alike over this program, which has nothing yet, once it is filled.
+fn agree_over(
+    alloc: Global,
+    program: &mut Program,
+    shape: Shape,
+    chance: &mut Chance,
+    met: &mut Met,
+) -> Option<bool> {
+    let mut second = Second::new();
+    fill(alloc, program, &mut second, shape, chance)?;
+    Some(first_difference(alloc, program, &second, chance, met) == 0)
+}
+
 // Whether both answer alike over a program of this shape.
 fn agree(alloc: Global, shape: Shape, chance: &mut Chance, met: &mut Met) -> Option<bool> {
     let mut program = Program::new(alloc).ok()?;
-    let mut second = Second::new();
-    fill(alloc, &mut program, &mut second, shape, chance)?;
-    Some(first_difference(alloc, &program, &second, chance, met) == 0)
+    agree_over(alloc, &mut program, shape, chance, met)
 }
 
 // The shape of the programs of this number.

@@ -45,7 +45,30 @@ fn is_tried_alike(two: &mut TwoPrograms, wanted: &mut Program, batch: Batch) -> 
     two.try_batch(batch).is_ok() == is_accepted && is_same(two.tried(), wanted)
 }
 
-// One batch of the history; what stands is this program before it.
+// The batch is accepted, and this program stands from now on; or it is refused.
+fn decide(two: &mut TwoPrograms, stands: &mut Program, tried: Program, is_accepted: bool) {
+    if is_accepted {
+        two.accept();
+        *stands = tried;
+    } else {
+        two.refuse();
+    }
+}
+
+// A batch of the history; what stands is this program before it.
+fn is_batch_alike(
+    two: &mut TwoPrograms,
+    stands: &mut Program,
+    batch: Batch,
+    is_accepted: bool,
+) -> Option<bool> {
+    let mut tried = stands.copy().ok()?;
+    let is_alike = is_tried_alike(two, &mut tried, batch) && is_same(two.stands(), stands);
+    decide(two, stands, tried, is_accepted);
+    Some(is_alike && is_same(two.stands(), stands) && is_same(two.tried(), stands))
+}
+
+// One batch of the history, in words.
 fn is_alike(
     alloc: Global,
     two: &mut TwoPrograms,
@@ -53,16 +76,8 @@ fn is_alike(
     words: &str,
     is_accepted: bool,
 ) -> Option<bool> {
-    let mut tried = stands.copy().ok()?;
     let batch = batch(alloc, words)?;
-    let is_alike = is_tried_alike(two, &mut tried, batch) && is_same(two.stands(), stands);
-    if is_accepted {
-        two.accept();
-        *stands = tried;
-    } else {
-        two.refuse();
-    }
-    Some(is_alike && is_same(two.stands(), stands) && is_same(two.tried(), stands))
+    is_batch_alike(two, stands, batch, is_accepted)
 }
 
 // Whether the two never differ, along the history.
