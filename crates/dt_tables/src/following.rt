@@ -4,6 +4,7 @@ ghost use Rattle.dt_definitions.specs.Step.{step_batch};
 ghost use Rattle.dt_propagate.specs.Limits.{AreSizesOf, IsFullBy, IsWithinLimits};
 ghost use Rattle.dt_cells.specs.Held.{Held};
 ghost use Rattle.dt_cells.specs.Following.{IsTableOf};
+ghost use Rattle.dt_tables.specs.Words.{AreNextWords};
 
 use crate::what_follows::covered_changes;
 use dt_cells::{TableKind, follow, tuples_follow};
@@ -14,8 +15,7 @@ use dt_scratch::{law_of_answers, law_of_cells};
 use std::alloc::Global;
 
 // The table follows the batch that is tried: it was one of the program that stands, and is one of the one that is tried.
-// The sizes go with it. After every fault it
-// is still one of the program that stands.
+// The sizes go with it. After every fault it is still one of the program that stands, and no word has changed.
 pub(crate) fn follow_tried<K: TableKind>(
     alloc: Global,
     kind: &mut K,
@@ -30,6 +30,8 @@ pub(crate) fn follow_tried<K: TableKind>(
     requires table { (held : Held) × IsTableOf K.kind (K.stands kind.old) 1 (look_up tree.old) held programs.now.stands }
     ensures low { K.low kind.new ≡ 1 }
     ensures table { OnOk result ((held : Held) × IsTableOf K.kind (K.stands kind.new) 1 (look_up tree.new) held programs.now.tried) }
+    ensures words { OnOk result (AreNextWords K.kind programs.now.stands programs.now.tried (look_up tree.old) (look_up tree.new)) }
+    ensures image { OnErr result (tree.new ≡ tree.old) }
     ensures sizes { OnOk result (AreSizesOf programs.now.tried sizes.new) }
     ensures sizes_stay { OnErr result (sizes.new ≡ sizes.old) }
     ensures within { OnOk result (IsWithinLimits programs.now.tried) }

@@ -1,11 +1,11 @@
 ghost use Rattle.std.specs.Prelude.{◌≡◌, ◌≤◌, IfOk};
 ghost use Rattle.dt_pages.specs.Image.{look_up};
 ghost use Rattle.dt_definitions.specs.Lawful.{Lawful};
-ghost use Rattle.dt_definitions.specs.Program.{empty_program};
 ghost use Rattle.dt_propagate.specs.Limits.{IsWithinLimits};
 ghost use Rattle.dt_scratch.specs.Resolve.{reply};
 ghost use Rattle.dt_cells.specs.Serving.{Serves};
 ghost use Rattle.dt_tables.specs.Commit.{Commits};
+ghost use Rattle.dt_tables.specs.Words.{empty_with_table, Renews};
 
 use crate::commit_fault::CommitFault;
 use crate::following::follow_tried;
@@ -19,10 +19,12 @@ use dt_scratch::{Query, Reply, law_of_cells, resolve};
 use std::alloc::Global;
 use std::marker::Model;
 
-/// A program and its table, kept in step. It is seen as the program.
+/// A program and its table, kept in step. It is seen as the program and the words of its table.
 ///
 /// Along any batches, each committed or refused, from the empty program on, the words of [`tree`](Tabled::tree) serve the
-/// program that stands.
+/// program that stands, and they are those that the kind makes of this history: see [`commits_make_words`].
+///
+/// [`commits_make_words`]: crate::commits_make_words
 #[derive(Drop)]
 pub struct Tabled<K: TableKind> {
     alloc: Global,
@@ -34,13 +36,18 @@ pub struct Tabled<K: TableKind> {
 }
 
 impl<K: TableKind> Model for Tabled<K> {
-    ghost use Rattle.dt_definitions.specs.Program as shown;
+    ghost use Rattle.std.specs.Ordering.{nat_cmp};
+    ghost use Rattle.std.specs.FinMap.{code};
+    ghost use Rattle.std.specs.Coded.{coded_ℕ, codes};
     ghost use Rattle.dt_pages.specs.Image.{look_up};
+    ghost use Rattle.dt_tables.specs.Words.{WithTable};
     ghost use Rattle.dt_tables.specs.Kept.{IsKept};
 
-    ghost Value = { shown.Program };
+    ghost Value = { WithTable };
 
-    ghost view = { λ t. t.programs.stands };
+    ghost coded = { Prim.hlevel (codes, code {R = nat_cmp} coded_ℕ coded_ℕ) };
+
+    ghost view = { λ t. record { program = t.programs.stands; words = t.tree } };
 
     ghost invariant = { λ t. IsKept K.kind (K.stands t.kind) (K.low t.kind) (look_up t.tree) t.programs t.sizes };
 }
@@ -49,7 +56,7 @@ impl<K: TableKind> Tabled<K> {
     /// The empty program with its table. [`NoMemory`] where none was found.
     pub fn new(alloc: Global) -> Result<Tabled<K>, NoMemory>
         requires { 1 ≤ K.kind.most_low }
-        ensures { IfOk result (λ tabled. tabled ≡ empty_program) }
+        ensures { IfOk result (λ tabled. tabled ≡ empty_with_table) }
     {
         let programs = TwoPrograms::new(alloc)?;
         let (kind, tree) = first_table::<K>(alloc, 1)?;
@@ -64,14 +71,15 @@ impl<K: TableKind> Tabled<K> {
 
     /// The program that stands.
     pub fn program(&self) -> &Program
-        ensures { result.now ≡ self.now }
+        ensures { result.now ≡ self.now.program }
     {
         self.programs.stands()
     }
 
     /// The words of the table: look-up over them gives the program's reply to every query whose arity the kind covers.
     pub fn tree(&self) -> &Tree
-        ensures { Serves 1 K.kind self.now (look_up result.now) }
+        ensures serves { Serves 1 K.kind self.now.program (look_up result.now) }
+        ensures words { result.now ≡ self.now.words }
     {
         self.programs.stands().law();
         law_of_cells();
@@ -81,8 +89,8 @@ impl<K: TableKind> Tabled<K> {
     /// What holds of every program that has a table: it is within the limits of cells and rows. It does nothing: a caller
     /// whose reasoning needs this calls it.
     pub fn law(&self)
-        ensures lawful { Lawful self.now }
-        ensures within { IsWithinLimits self.now }
+        ensures lawful { Lawful self.now.program }
+        ensures within { IsWithinLimits self.now.program }
     {
         self.programs.stands().law();
     }
@@ -94,7 +102,8 @@ impl<K: TableKind> Tabled<K> {
     /// it changes; and setting the words of these changes. Under selector table indexing no other word of a cell is set;
     /// under a kind with places a selector or row that moves has all its cells set anew.
     pub fn commit(&mut self, batch: &Batch) -> Result<(), CommitFault>
-        ensures { Commits self.old batch.now self.new result }
+        ensures program { Commits self.old.program batch.now self.new.program result }
+        ensures words { Renews K.kind self.old self.new result }
     {
         limits_are_counted();
         self.programs.try_batch(batch.copy()?)?;
@@ -120,8 +129,8 @@ impl<K: TableKind> Tabled<K> {
 
     /// The reply to the query: by the table where the kind covers the query's arity, else by look-up from scratch.
     pub fn reply(&mut self, query: &Query) -> Reply
-        ensures value { result ≡ reply self.old query.now }
-        ensures program { self.new ≡ self.old }
+        ensures value { result ≡ reply self.old.program query.now }
+        ensures same { self.new ≡ self.old }
     {
         query.law();
         self.programs.stands().law();

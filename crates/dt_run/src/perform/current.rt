@@ -14,7 +14,7 @@ use std::rc::Rc;
 
 // Commits a batch to a program and its table.
 fn commit<K: TableKind>(tabled: &mut Tabled<K>, batch: &Batch) -> Result<(), CommitFault>
-    ensures { (version : ℕ) → Tells version tabled.old batch.now tabled.new result }
+    ensures { (version : ℕ) → Tells version tabled.old.program batch.now tabled.new.program result }
 {
     tabled.commit(batch)
 }
@@ -35,9 +35,9 @@ impl<K: TableKind> Model for Current<K> {
 
     ghost Value = { Snapshot };
 
-    ghost view = { λ c. record { version = c.version; program = c.tabled } };
+    ghost view = { λ c. record { version = c.version; program = c.tabled.program } };
 
-    ghost invariant = { λ c. IfSome c.copy (λ kept. kept.value ≡ record { version = c.version; program = c.tabled }) };
+    ghost invariant = { λ c. IfSome c.copy (λ kept. kept.value ≡ record { version = c.version; program = c.tabled.program }) };
 }
 
 impl<K: TableKind> Current<K> {
