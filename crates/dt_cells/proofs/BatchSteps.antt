@@ -21,7 +21,7 @@ use Rattle.dt_cells.specs.Heads.{HasHeads, head_word, with_heads, class_word}
 use Rattle.dt_cells.specs.Serving.{Serves, IsRest}
 use Rattle.dt_cells.specs.Following.{IsTableOf, CanFollow, IsImageAfter, ImagesAreDetermined}
 use Rattle.dt_cells.proofs.Limits.{within_limits}
-use Rattle.dt_cells.proofs.Serving.{tuples_after, shown_serves, none_is_stray_after, rest_stays}
+use Rattle.dt_cells.proofs.Serving.{cells_after, shown_serves, none_is_stray_after, rest_stays}
 
 -- nothing is laid over by a draft in which nothing is set
 pub nothing_laid : (drafted : Drafted) (x : Reading) (address : ℕ) → drafted ≡ empty → laid_over drafted x address ≡ x address
@@ -86,7 +86,7 @@ pub followed : (k : Kind) (l : IsLawful k) (understood : UnderstoodCells) (befor
     → IsTableOf k now low z (held_after held changes) new
 followed k l understood before now low x w z held changes old new lawful steps can sh pl standing = record {
   standing = standing;
-  tuples = tuples_after understood low k.arities old new held changes lawful can.table.tuples can.differences;
+  holds = cells_after understood low k.arities old new held changes lawful can.table.holds can.differences;
   heads = record {
     classes = λ class below. steps.rest class (unset_head k l changes class (omega (arith, below))) ∙ (steps.has_heads can.table.heads).classes class below;
     selectors = λ s below. steps.rest (selector_at s) (unset_head k l changes (selector_at s) (omega (arith, below))) ∙ (steps.has_heads can.table.heads).selectors s below;
@@ -97,7 +97,7 @@ followed k l understood before now low x w z held changes old new lawful steps c
 -- a table serves its program
 pub table_serves : (k : Kind) (l : IsLawful k) (understood : UnderstoodCells) (stands : Reading → Held → Type 0) (low : ℕ) (x : Reading) (held : Held) (p : Program)
     → 1 ≤ low → Lawful p → k.shows x held → IsTableOf k stands low x held p → Serves low k p x
-table_serves k l understood stands low x held p some lawful sh table = shown_serves understood k l low p held x some lawful table.tuples sh table.heads
+table_serves k l understood stands low x held p some lawful sh table = shown_serves understood k l low p held x some lawful table.holds sh table.heads
     (λ s n live least most unplaced. table.strays s ((within_limits p lawful).selectors s n live).0 unplaced)
 
 -- over a draft in which nothing was set
@@ -122,7 +122,7 @@ steps_of k drafted headed staged x changes old new none words has rest = record 
 pub first : (k : Kind) (stands : Reading → Held → Type 0) (low : ℕ) → stands blank none_held → IsTableOf k stands low blank none_held empty_program
 first k stands low standing = record {
   standing = standing;
-  tuples = record { cells = λ q least most. refl; none = λ q h. absurd (h refl) };
+  holds = record { cells = λ q least most. refl; none = λ q h. absurd (h refl) };
   heads = record { classes = λ class below. refl; selectors = λ s below. refl };
   strays = λ s below unplaced. refl;
 }

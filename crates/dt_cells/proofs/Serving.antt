@@ -23,7 +23,7 @@ use Rattle.dt_cells.specs.Find.{arity_read, is_class_read, first_unread, head_by
 use Rattle.dt_cells.specs.Heads.{HasHeads}
 use Rattle.dt_scratch.specs.CellLaws.{UnderstoodCells}
 use Rattle.dt_cells.proofs.Limits.{IsWithinLimits, within_limits}
-use Rattle.dt_cells.specs.Serving.{Serves, AreTuples, NoStray, TuplesFollow, ShownServes, BlankServes, ServesAfter, NoneIsStrayAfter, RestStays}
+use Rattle.dt_cells.specs.Serving.{Serves, HoldsCells, NoStray, CellsFollow, ShownServes, BlankServes, ServesAfter, NoneIsStrayAfter, RestStays}
 
 -- the kind's part answers as the program does, where the selector is live and takes as many arguments
 abbrev pub Answers : ℕ → Kind → Program → Reading → Type 0
@@ -37,11 +37,11 @@ stable Ambiguous h = absurd (h (λ e. cc))
 some_same : (m n : ℕ) (o : Option ℕ) → o ≡ Some m → o ≡ Some n → m ≡ n
 some_same m n o e f = cc
 
-shown_answers : (k : Kind) → IsLawful k → (low : ℕ) (p : Program) (held : Held) (y : Reading) → AreTuples low k.arities p held
+shown_answers : (k : Kind) → IsLawful k → (low : ℕ) (p : Program) (held : Held) (y : Reading) → HoldsCells low k.arities p held
     → k.shows y held → NoStray low k p held y → Answers low k p y
-shown_answers k l low p held y tuples sh lacking q range live least most =
-    let arity : HasArityOf held q = λ r h same. some_same (arity_of_query r) (arity_of_query q) (arity_of p r.selector) (tuples.none r h).0 (ap (arity_of p) same ∙ live) in
-    let is = tuples.cells q least most in
+shown_answers k l low p held y holds sh lacking q range live least most =
+    let arity : HasArityOf held q = λ r h same. some_same (arity_of_query r) (arity_of_query q) (arity_of p r.selector) (holds.none r h).0 (ap (arity_of p) same ∙ live) in
+    let is = holds.cells q least most in
     by_answer (held q) refl arity is
   where
     -- nothing is held of the query: then the place word is 0, or a placed selector's
@@ -157,25 +157,25 @@ after_cell held new (c ∷ cs) q cells rest = by_cases (is_same_query c.query q)
     ∙ after_cell held new cs q (All-tail (λ change. change.answer ≡ cell new change.query) c cs cells)
     (λ n. rest (rw f n)))
 
-pub tuples_after : UnderstoodCells → TuplesFollow
-tuples_after understood low high old new held changes lawful tuples diff = record {
+pub cells_after : UnderstoodCells → CellsFollow
+cells_after understood low high old new held changes lawful holds diff = record {
   cells = now;
   none = λ q h. let a = arities q h in (((understood new lawful q).0 (λ e. h (now q a.0 a.1 ∙ e))).arity_fits, a.0, a.1);
 }
   where
     now : (q : Query) → low ≤ arity_of_query q → arity_of_query q ≤ high → held_after held changes q ≡ cell new q
-    now q least most = after_cell held new changes q diff.cells (λ n. tuples.cells q least most ∙ diff.all q least most n)
+    now q least most = after_cell held new changes q diff.cells (λ n. holds.cells q least most ∙ diff.all q least most n)
 
     arities : (q : Query) → IsHeld (held_after held changes) q → (low ≤ arity_of_query q) × (arity_of_query q ≤ high)
     arities q h = after_keeps (λ r. (low ≤ arity_of_query r) × (arity_of_query r ≤ high)) held changes
-        (λ r g. let t = tuples.none r g in (t.1, t.2)) diff.arities q h
+        (λ r g. let t = holds.none r g in (t.1, t.2)) diff.arities q h
 
 -- ---- the laws of every lawful kind
 
 module _ (understood : UnderstoodCells) (k : Kind) (l : IsLawful k) where
   pub shown_serves : ShownServes k
-  shown_serves low p held x some lawful tuples sh heads lacking =
-      serves low k p x (within_limits p lawful) heads (shown_answers k l low p held x tuples sh lacking)
+  shown_serves low p held x some lawful holds sh heads lacking =
+      serves low k p x (within_limits p lawful) heads (shown_answers k l low p held x holds sh lacking)
 
   pub blank_serves : BlankServes k
   blank_serves low q least most = by_test (nat_lt q.selector selector_numbers)
@@ -185,8 +185,8 @@ module _ (understood : UnderstoodCells) (k : Kind) (l : IsLawful k) where
       by_test false = refl
 
   pub serves_after : ServesAfter k
-  serves_after low old new held changes x z y some lawful tuples diff sh able pl stay same heads lacking =
-      shown_serves low new (held_after held changes) y some lawful (tuples_after understood low k.arities old new held changes lawful tuples diff)
+  serves_after low old new held changes x z y some lawful holds diff sh able pl stay same heads lacking =
+      shown_serves low new (held_after held changes) y some lawful (cells_after understood low k.arities old new held changes lawful holds diff)
       (l.shown_elsewhere z y (held_after held changes) (l.shown_after low x z held changes sh some able pl stay) same) heads lacking
 
   no_cell : (s : ℕ) → s < selector_numbers → k.owns (place_of s) ≡ false

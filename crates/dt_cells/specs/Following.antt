@@ -6,13 +6,13 @@ use Rattle.dt_scratch.specs.declared.reply.Change.{Change}
 use Rattle.dt_cells.specs.Held.{Held, IsStageable}
 use Rattle.dt_cells.specs.Kind.{Kind, sets}
 use Rattle.dt_cells.specs.Heads.{HasHeads, with_heads}
-use Rattle.dt_cells.specs.Serving.{AreTuples, AreDifferences, NoneIsStray}
+use Rattle.dt_cells.specs.Serving.{HoldsCells, AreDifferences, NoneIsStray}
 
 -- the value and the image are a table of the program: what is held is what the program understands, the heads are its
 -- own, and no selector without a place has a place word
 pub record IsTableOf (k : Kind) (stands : Reading → Held → Type 0) (low : ℕ) (x : Reading) (held : Held) (p : Program) : Type 0 where
   pub standing : stands x held
-  pub tuples : AreTuples low k.arities p held
+  pub holds : HoldsCells low k.arities p held
   pub heads : HasHeads p x
   pub strays : NoneIsStray k held x
 

@@ -17,8 +17,8 @@ use Rattle.dt_cells.specs.Heads.{HasHeads}
 abbrev pub Serves : ℕ → Kind → Program → Reading → Type 0
 Serves low k p x = (q : Query) → low ≤ arity_of_query q → arity_of_query q ≤ k.arities → found k x q ≡ reply p q
 
--- what is held is the understood tuples of the program of these arities, each with its answer
-pub record AreTuples (low high : ℕ) (p : Program) (held : Held) : Type 0 where
+-- what is held is the program's cells of these arities, each with its answer
+pub record HoldsCells (low high : ℕ) (p : Program) (held : Held) : Type 0 where
   pub cells : (q : Query) → low ≤ arity_of_query q → arity_of_query q ≤ high → held q ≡ cell p q
   pub none : (q : Query) → IsHeld held q → (arity_of p q.selector ≡ Some (arity_of_query q)) × (low ≤ arity_of_query q) × (arity_of_query q ≤ high)
 
@@ -39,26 +39,26 @@ pub record AreDifferences (low high : ℕ) (old new : Program) (changes : List C
       → list_any (λ change. is_same_query change.query q) changes ≡ false → cell old q ≡ cell new q
 
 -- What is held after the differences of two programs is what the new one, a lawful program, understands.
-abbrev pub TuplesFollow : Type 0
-TuplesFollow = (low high : ℕ) (old new : Program) (held : Held) (changes : List Change) → Lawful new
-    → AreTuples low high old held → AreDifferences low high old new changes → AreTuples low high new (held_after held changes)
+abbrev pub CellsFollow : Type 0
+CellsFollow = (low high : ℕ) (old new : Program) (held : Held) (changes : List Change) → Lawful new
+    → HoldsCells low high old held → AreDifferences low high old new changes → HoldsCells low high new (held_after held changes)
 
--- Where a reading shows the understood tuples of a program, has its class words and selector words, and has no stray
+-- Where a reading shows the cells of a program, has its class words and selector words, and has no stray
 -- place word, it serves the program.
 abbrev pub ShownServes : Kind → Type 0
-ShownServes k = (low : ℕ) (p : Program) (held : Held) (x : Reading) → 1 ≤ low → Lawful p → AreTuples low k.arities p held
+ShownServes k = (low : ℕ) (p : Program) (held : Held) (x : Reading) → 1 ≤ low → Lawful p → HoldsCells low k.arities p held
     → k.shows x held → HasHeads p x → NoStray low k p held x → Serves low k p x
 
 -- The empty image serves the empty program.
 abbrev pub BlankServes : Kind → Type 0
 BlankServes k = (low : ℕ) → Serves low k empty_program blank
 
--- What the changes make of a reading that shows the old program's tuples, and of every reading that agrees with it
+-- What the changes make of a reading that shows the old program's cells, and of every reading that agrees with it
 -- where this kind looks, serves the new program, where it has the new class words and selector words and no live
 -- selector without a place has a place word.
 abbrev pub ServesAfter : Kind → Type 0
 ServesAfter k = (low : ℕ) (old new : Program) (held : Held) (changes : List Change) (x z y : Reading) → 1 ≤ low → Lawful new
-    → AreTuples low k.arities old held → AreDifferences low k.arities old new changes
+    → HoldsCells low k.arities old held → AreDifferences low k.arities old new changes
     → k.shows x held → IsStageable low k.arities held changes → k.places x held changes z → Stay k held changes x z
     → SameFor k (held_after held changes) z y → HasHeads new y → NoStray low k new (held_after held changes) y → Serves low k new y
 

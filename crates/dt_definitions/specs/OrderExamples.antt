@@ -1,6 +1,6 @@
 -- Worked examples of places, of the order of definitions, and of when an edit takes memory.
 use Rattle.std.specs.Prelude.{◌≡◌, ℕ, true, false, List, [], ◌∷◌, None, Some, Err, refl}
-use Rattle.dt_definitions.specs.Program.{Definition, Program, empty_program, arity_of, same_classes, are_classes_before, is_definition, is_definition_before, insert_definition, definitions_of, body_of}
+use Rattle.dt_definitions.specs.Program.{Definition, Program, empty_program, arity_of, same_classes, are_classes_before, is_definition, key_of, is_key_before, insert_definition, definitions_of, body_of}
 use Rattle.dt_definitions.specs.Nth.{nth}
 use Rattle.dt_definitions.specs.Step.{is_named, is_defined, has_definition, arity_differs, refusal, effect, step_from, stepped, after, fault_at, why_of}
 use Rattle.dt_definitions.specs.Memory.{may_want_memory, batch_may_want_memory}
@@ -49,13 +49,13 @@ not_before_itself = refl
 
 -- ---- the order of definitions: by selector, then by classes; the body doesn't count
 
-by_selector_first : is_definition_before (at 4 (9 ∷ []) 1) (at 5 (0 ∷ []) 0) ≡ true
+by_selector_first : is_key_before (key_of (at 4 (9 ∷ []) 1)) (key_of (at 5 (0 ∷ []) 0)) ≡ true
 by_selector_first = refl
 
-then_by_classes : is_definition_before (at 4 (9 ∷ []) 0) (at 4 (8 ∷ []) 1) ≡ false
+then_by_classes : is_key_before (key_of (at 4 (9 ∷ []) 0)) (key_of (at 4 (8 ∷ []) 1)) ≡ false
 then_by_classes = refl
 
-not_by_body : is_definition_before (at 4 (9 ∷ []) 0) (at 4 (9 ∷ []) 1) ≡ false
+not_by_body : is_key_before (key_of (at 4 (9 ∷ []) 0)) (key_of (at 4 (9 ∷ []) 1)) ≡ false
 not_by_body = refl
 
 of_any_body : is_definition 4 (9 ∷ []) (at 4 (9 ∷ []) 1) ≡ true

@@ -42,11 +42,6 @@ are_classes_before (x ∷ xs) (y ∷ ys) = nat_lt x y || ((x == y) && are_classe
 abbrev pub is_definition : ℕ → List ℕ → Definition → Bool
 is_definition selector classes d = (d.selector == selector) && same_classes d.classes classes
 
--- whether the first definition stands before the second in the order of definitions
-abbrev pub is_definition_before : Definition → Definition → Bool
-is_definition_before a b =
-    nat_lt a.selector b.selector || ((a.selector == b.selector) && are_classes_before a.classes b.classes)
-
 -- where a definition stands
 abbrev pub key_of : Definition → DefinitionKey
 key_of d = record { selector = d.selector; classes = d.classes }

@@ -39,8 +39,8 @@ abbrev before : Outside
 before = outside (Some (codes "end\n")) 2 (Some []) 3
 
 -- after it, with these bytes left and taken
-abbrev after : List ℕ → ℕ → List ℕ → ℕ → Outside
-after left read_faults taken put_faults = outside (Some left) read_faults (Some taken) put_faults
+abbrev ended : List ℕ → ℕ → List ℕ → ℕ → Outside
+ended left read_faults taken put_faults = outside (Some left) read_faults (Some taken) put_faults
 
 its_summary : summary_of smallest_script.names (log 0) ≡ summary
 unfolding digits
@@ -49,28 +49,28 @@ its_summary = refl
 was_performed : Outcome smallest_script VERSIONS (log 0)
 was_performed = record { shape = ((refl, tt), tt); versions = (refl, tt, refl, refl); edits = (tt, tt); calls = tt }
 
-done : SummedEnding smallest_script Done (Some (log 0)) before (after (codes "end\n") 2 summary 3)
+done : SummedEnding smallest_script Done (Some (log 0)) before (ended (codes "end\n") 2 summary 3)
 done = ((refl, refl), refl, (was_performed, sym its_summary))
 
 -- the sink failed after seven bytes, and the log is handed back
-cut_short : SummedEnding smallest_script WriteFault (Some (log 0)) before (after (codes "end\n") 2 (codes "classes") 4)
+cut_short : SummedEnding smallest_script WriteFault (Some (log 0)) before (ended (codes "end\n") 2 (codes "classes") 4)
 unfolding digits
 cut_short = ((refl, refl), refl, (was_performed, (7, lit≤ tt, refl)))
 
 -- this text was told whole, and no log is handed back
-told : (bytes : List ℕ) → EndsWith None before (after (codes "end\n") 2 bytes 3) bytes
+told : (bytes : List ℕ) → EndsWith None before (ended (codes "end\n") 2 bytes 3) bytes
 told bytes = (refl, inl refl, record { prefix = (length bytes, omega arith, sym (take_all (length bytes) bytes (omega arith))); whole = λ calm. refl })
 
-memory : SummedEnding smallest_script NoMemory None before (after (codes "end\n") 2 (codes "fault memory\n") 3)
+memory : SummedEnding smallest_script NoMemory None before (ended (codes "end\n") 2 (codes "fault memory\n") 3)
 memory = ((refl, refl), told (codes "fault memory\n"))
 
 -- ---- no run of it ends so
 
 -- done without a log, or with one that is no outcome
-done_without_a_log : SummedEnding smallest_script Done None before (after (codes "end\n") 2 summary 3) → ⊥
+done_without_a_log : SummedEnding smallest_script Done None before (ended (codes "end\n") 2 summary 3) → ⊥
 done_without_a_log (unread, calm, none) = none
 
-done_at_another_version : SummedEnding smallest_script Done (Some (log 1)) before (after (codes "end\n") 2 summary 3) → ⊥
+done_at_another_version : SummedEnding smallest_script Done (Some (log 1)) before (ended (codes "end\n") 2 summary 3) → ⊥
 done_at_another_version (unread, calm, (outcome, took)) = no_other_last smallest_script.phases outcome.versions
 
 text_is_no_summary : text ≡ summary → ⊥
@@ -80,31 +80,31 @@ front_is_no_summary : codes "classes" ≡ summary → ⊥
 front_is_no_summary same = absurd cc
 
 -- done with the text of the log in the place of its summary, or before the end of this
-done_with_the_logs_text : SummedEnding smallest_script Done (Some (log 0)) before (after (codes "end\n") 2 text 3) → ⊥
+done_with_the_logs_text : SummedEnding smallest_script Done (Some (log 0)) before (ended (codes "end\n") 2 text 3) → ⊥
 done_with_the_logs_text (unread, calm, (outcome, took)) = text_is_no_summary (took ∙ its_summary)
 
-done_before_the_end : SummedEnding smallest_script Done (Some (log 0)) before (after (codes "end\n") 2 (codes "classes") 3) → ⊥
+done_before_the_end : SummedEnding smallest_script Done (Some (log 0)) before (ended (codes "end\n") 2 (codes "classes") 3) → ⊥
 done_before_the_end (unread, calm, (outcome, took)) = front_is_no_summary (took ∙ its_summary)
 
 -- done after something was read, after a read failed, or though a put failed
-done_after_reading : SummedEnding smallest_script Done (Some (log 0)) before (after [] 2 summary 3) → ⊥
+done_after_reading : SummedEnding smallest_script Done (Some (log 0)) before (ended [] 2 summary 3) → ⊥
 done_after_reading ((left, calm), stood, ends) = absurd cc
 
-done_after_a_read_fault : SummedEnding smallest_script Done (Some (log 0)) before (after (codes "end\n") 3 summary 3) → ⊥
+done_after_a_read_fault : SummedEnding smallest_script Done (Some (log 0)) before (ended (codes "end\n") 3 summary 3) → ⊥
 done_after_a_read_fault ((left, calm), stood, ends) = absurd cc
 
-done_at_a_put_fault : SummedEnding smallest_script Done (Some (log 0)) before (after (codes "end\n") 2 summary 4) → ⊥
+done_at_a_put_fault : SummedEnding smallest_script Done (Some (log 0)) before (ended (codes "end\n") 2 summary 4) → ⊥
 done_at_a_put_fault (unread, calm, ends) = absurd cc
 
 -- a write fault without a log, or without a put that failed
-write_fault_without_a_log : SummedEnding smallest_script WriteFault None before (after (codes "end\n") 2 (codes "classes") 4) → ⊥
+write_fault_without_a_log : SummedEnding smallest_script WriteFault None before (ended (codes "end\n") 2 (codes "classes") 4) → ⊥
 write_fault_without_a_log (unread, once, none) = none
 
-write_fault_without_one : SummedEnding smallest_script WriteFault (Some (log 0)) before (after (codes "end\n") 2 (codes "classes") 3) → ⊥
+write_fault_without_one : SummedEnding smallest_script WriteFault (Some (log 0)) before (ended (codes "end\n") 2 (codes "classes") 3) → ⊥
 write_fault_without_one (unread, once, ends) = absurd cc
 
 -- memory was wanted, and a log is handed back
-memory_with_a_log : SummedEnding smallest_script NoMemory (Some (log 0)) before (after (codes "end\n") 2 (codes "fault memory\n") 3) → ⊥
+memory_with_a_log : SummedEnding smallest_script NoMemory (Some (log 0)) before (ended (codes "end\n") 2 (codes "fault memory\n") 3) → ⊥
 memory_with_a_log (unread, (handed, counted, ends)) = absurd cc
 
 -- usage, a fault of a script or a read fault

@@ -22,7 +22,7 @@ pub next_words : (k : Kind) (stands : Reading → Held → Type 0) → ((x : Rea
     → IsImageAfter k x held items old new y → AreNextWords k old new x y
 next_words k stands shows old new x y held table most same items found image = record {
   held = held;
-  table = record { standing = shows x held table.standing; tuples = table.tuples; heads = table.heads; strays = table.strays };
+  table = record { standing = shows x held table.standing; holds = table.holds; heads = table.heads; strays = table.strays };
   changes = found.0;
   differences = found.1;
   words = subst (λ n. IsImageAfter k x held (filter (is_covered n) found.0) old new y) (sym same)

@@ -36,7 +36,7 @@ use Rattle.dt_propagate.specs.Walk.{is_same_answer}
 use Rattle.dt_propagate.proofs.Touching.{one_understood}
 use Rattle.dt_cells.specs.Held.{Held, IsInRange, HasBodyInRange, HasFewRows, Row, IsStageableChange, IsStageable, held_after, most_rows}
 use Rattle.dt_cells.specs.Kind.{Kind}
-use Rattle.dt_cells.specs.Serving.{AreTuples, AreDifferences, TuplesFollow}
+use Rattle.dt_cells.specs.Serving.{HoldsCells, AreDifferences, CellsFollow}
 use Rattle.dt_cells.specs.Following.{IsTableOf, CanFollow}
 use Rattle.dt_cells.proofs.Limits.{within_limits}
 use Rattle.dt_tables.specs.Kept.{is_covered}
@@ -137,18 +137,18 @@ module _ (understood : UnderstoodCells) (answers : CellsAreAnswers) (methods : M
   abbrev row_of : Query → Row
   row_of prefix = (prefix.selector, prefix.classes)
 
-  few_rows : (p : Program) (lawful : Lawful p) (high : ℕ) (held : Held) → IsWithinLimits p → AreTuples 1 high p held → HasFewRows most_rows held
-  few_rows p lawful high held within tuples = (
+  few_rows : (p : Program) (lawful : Lawful p) (high : ℕ) (held : Held) → IsWithinLimits p → HoldsCells 1 high p held → HasFewRows most_rows held
+  few_rows p lawful high held within holds = (
     map row_of (told_of_all (told_row p) row_lengths),
     subst (λ n. n ≤ most_rows) (sym (length-map (told_of_all (told_row p) row_lengths) row_of)) (few p lawful within),
     λ q n h short.
-        let is = tuples.none q h in
+        let is = holds.none q h in
         let prefix : Query = record { selector = q.selector; classes = take n q.classes } in
         let row : IsRow p prefix = (
           drop n q.classes,
           record {
             some = λ none. let left = length-drop n q.classes in let zero : length (drop n q.classes) ≡ 0 = ap length none in absurd (omega (arith, left, zero, short));
-            understood = λ e. h (tuples.cells q is.1 is.2
+            understood = λ e. h (holds.cells q is.1 is.2
                 ∙ ap (λ classes. cell p (record { selector = q.selector; classes = classes })) (sym (take-append-drop n q.classes)) ∙ e);
           },
         ) in
@@ -159,7 +159,7 @@ module _ (understood : UnderstoodCells) (answers : CellsAreAnswers) (methods : M
 
   -- ---- the covered changes are the differences, and may be staged
 
-  module _ (follow : TuplesFollow) (old new : Program) (is_old : Lawful old) (is_new : Lawful new) (most : ℕ)
+  module _ (follow : CellsFollow) (old new : Program) (is_old : Lawful old) (is_new : Lawful new) (most : ℕ)
       (all : List Change) (diff : found.AreDifferences old new all) where
     abbrev covered : List Change
     covered = filter (is_covered most) all
@@ -193,9 +193,9 @@ module _ (understood : UnderstoodCells) (answers : CellsAreAnswers) (methods : M
             false≢true (sym (none_at (λ change. is_same_query change.query q) covered at.0 i none)
             ∙ subst (λ r. is_same_query r q ≡ true) at.2 (same_itself q))
 
-    pub is_stageable : (held : Held) → IsWithinLimits new → AreTuples 1 most old held → IsStageable 1 most held covered
-    is_stageable held within tuples =
-        let now : AreTuples 1 most new (held_after held covered) = follow 1 most old new held covered is_new tuples are_differences in record {
+    pub is_stageable : (held : Held) → IsWithinLimits new → HoldsCells 1 most old held → IsStageable 1 most held covered
+    is_stageable held within holds =
+        let now : HoldsCells 1 most new (held_after held covered) = follow 1 most old new held covered is_new holds are_differences in record {
           ascending = IsStrictlySortedBy-filter (λ a b. query_order (query_of a) (query_of b)) (is_covered most) all (sorted all diff.queries.ascending);
           each = All-from_In (IsStageableChange 1 most) covered (λ c i. record {
             least = (fit c i).some;
@@ -214,11 +214,11 @@ module _ (understood : UnderstoodCells) (answers : CellsAreAnswers) (methods : M
       table = table;
       differences = subst (λ n. AreDifferences 1 n old new covered) (sym same) are_differences;
       stageable = subst (λ n. IsStageable 1 n held covered) (sym same)
-          (is_stageable held within (subst (λ n. AreTuples 1 n old held) same table.tuples));
+          (is_stageable held within (subst (λ n. HoldsCells 1 n old held) same table.holds));
     }
 
   -- as a caller has it, that knows the list by an equation
-  pub covered_can_follow : (follow : TuplesFollow) (old new : Program) (is_old : Lawful old) (is_new : Lawful new) (most : ℕ) (items : List Change)
+  pub covered_can_follow : (follow : CellsFollow) (old new : Program) (is_old : Lawful old) (is_new : Lawful new) (most : ℕ) (items : List Change)
       → (all : List Change) × found.AreDifferences old new all × (items ≡ filter (is_covered most) all)
       → (k : Kind) → k.arities ≡ most → (stands : Reading → Held → Type 0) (low : ℕ) → low ≡ 1 → (x : Reading) (held : Held) → IsWithinLimits new
       → IsTableOf k stands 1 x held old → CanFollow k stands low x held items old new

@@ -7,7 +7,7 @@ ghost use Rattle.dt_cells.specs.Following.{IsTableOf};
 ghost use Rattle.dt_tables.specs.Words.{AreNextWords};
 
 use crate::what_follows::covered_changes;
-use dt_cells::{TableKind, follow, tuples_follow};
+use dt_cells::{TableKind, follow, cells_follow};
 use dt_definitions::{Batch, TwoPrograms};
 use dt_pages::Tree;
 use dt_propagate::{ChangeFault, Sizes};
@@ -46,7 +46,7 @@ pub(crate) fn follow_tried<K: TableKind>(
     new.law();
     law_of_cells();
     law_of_answers();
-    tuples_follow();
+    cells_follow();
     let mut renewed = *sizes;
     let changes = covered_changes(alloc, old, batch, new, &mut renewed, K::ARITIES)?;
     match follow(alloc, kind, tree, &changes, old, batch, new) {

@@ -11,7 +11,7 @@ use Rattle.dt_tables.proofs.following.follow_tried.Goals as goal
 pub follow-requires-clause-table : goal.follow-requires-clause-table
 follow-requires-clause-table g c κs within = (
   c.requires.table.0,
-  covered_can_follow c.law_of_cells.ensures.understood c.law_of_cells.ensures.answers c.law_of_answers.ensures.in_range c.tuples_follow.ensures
+  covered_can_follow c.law_of_cells.ensures.understood c.law_of_cells.ensures.answers c.law_of_answers.ensures.in_range c.cells_follow.ensures
       c.stands-old.result.now c.tried-new.result.now c.law.ensures.lawful c.law-2.ensures.lawful c.ARITIES.result c.deref.result.now
       (c.in_ok-changes.ensures.covered.0, c.in_ok-changes.ensures.covered.1, c.deref.ensures.value ∙ c.in_ok-changes.ensures.covered.2)
       g.K.TableKind.kind ((g.met.K.TableKind g.world.𝓛 g.world.𝓜 g.world.𝓡 ((λ s x. x), (λ x. x), (λ x. x), λ x. x)).covers ∙ sym c.ARITIES.ensures) (g.K.TableKind.stands c.args.kind.now) (g.K.TableKind.low c.args.kind.now) c.requires.low
@@ -28,7 +28,7 @@ returns-in-Ok-clause-table g c = (
       (subst (λ n. IsTableOf g.K.TableKind.kind (g.K.TableKind.stands c.follow.new.kind) n (look_up c.follow.new.tree) (held_after c.requires.table.0 c.deref.result.now) c.tried-new.result.now)
       c.requires.low
       (c.in-Ok.ensures.table c.requires.table.0
-      (covered_can_follow c.law_of_cells.ensures.understood c.law_of_cells.ensures.answers c.law_of_answers.ensures.in_range c.tuples_follow.ensures
+      (covered_can_follow c.law_of_cells.ensures.understood c.law_of_cells.ensures.answers c.law_of_answers.ensures.in_range c.cells_follow.ensures
       c.stands-old.result.now c.tried-new.result.now c.law.ensures.lawful c.law-2.ensures.lawful c.ARITIES.result c.deref.result.now
       (c.in_ok-changes.ensures.covered.0, c.in_ok-changes.ensures.covered.1, c.deref.ensures.value ∙ c.in_ok-changes.ensures.covered.2)
       g.K.TableKind.kind ((g.met.K.TableKind g.world.𝓛 g.world.𝓜 g.world.𝓡 ((λ s x. x), (λ x. x), (λ x. x), λ x. x)).covers ∙ sym c.ARITIES.ensures) (g.K.TableKind.stands c.args.kind.now) (g.K.TableKind.low c.args.kind.now) c.requires.low
@@ -48,7 +48,7 @@ returns-in-Ok-clause-words g c =
     c.ARITIES.result ((g.met.K.TableKind g.world.𝓛 g.world.𝓜 g.world.𝓡 ((λ s x. x), (λ x. x), (λ x. x), λ x. x)).covers ∙ sym c.ARITIES.ensures) c.deref.result.now
     (c.in_ok-changes.ensures.covered.0, c.in_ok-changes.ensures.covered.1, c.deref.ensures.value ∙ c.in_ok-changes.ensures.covered.2)
     (c.in-Ok.ensures.words c.requires.table.0
-    (covered_can_follow c.law_of_cells.ensures.understood c.law_of_cells.ensures.answers c.law_of_answers.ensures.in_range c.tuples_follow.ensures
+    (covered_can_follow c.law_of_cells.ensures.understood c.law_of_cells.ensures.answers c.law_of_answers.ensures.in_range c.cells_follow.ensures
     c.stands-old.result.now c.tried-new.result.now c.law.ensures.lawful c.law-2.ensures.lawful c.ARITIES.result c.deref.result.now
     (c.in_ok-changes.ensures.covered.0, c.in_ok-changes.ensures.covered.1, c.deref.ensures.value ∙ c.in_ok-changes.ensures.covered.2)
     g.K.TableKind.kind ((g.met.K.TableKind g.world.𝓛 g.world.𝓜 g.world.𝓡 ((λ s x. x), (λ x. x), (λ x. x), λ x. x)).covers ∙ sym c.ARITIES.ensures) (g.K.TableKind.stands c.args.kind.now) (g.K.TableKind.low c.args.kind.now) c.requires.low
