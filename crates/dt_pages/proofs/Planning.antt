@@ -2,13 +2,14 @@
 use Rattle.std.proofs.Common.{◌≡◌, ◌≢◌, ◌⊎◌, ◌↔◌, ℕ, zero, suc, ◌+◌, ◌<◌, ◌≤◌, ◌==◌, nat_lt, Bool, true, false, not, cond, List, [], ◌∷◌, length, get_or, Contains, None, All, refl, sym, ap, subst, ◌∙◌, inl, inr, arith, true≢false, ltb-true, ltb-false, eqb-true, eq-eqb}
 use native.Mathlib.Decide.{ℕ_discrete}
 use Rattle.std.specs.FinMap.{get}
+use Rattle.std.specs.List.{IsDistinct, AllByRecursion}
 use Rattle.std.proofs.lemmas.List.{get_or_default}
 use Rattle.dt_pages.specs.Reading.{addresses}
 use Rattle.dt_pages.specs.Draft.{Drafted, laid_over}
 use Rattle.dt_pages.specs.Numbering.{Numbering, IsNode, top_node, child, IsNumbering, AreFree, Follows, AreGone}
 use Rattle.dt_pages.specs.Drawing.{Drawing, is_blank_below, changed_nodes, taken, pages_of}
 use Rattle.dt_pages.specs.Planned.{Planned, IsPlan}
-use Rattle.dt_pages.proofs.Rising.{In, to_contains, from_contains, in_filter, in_at, Rising, rising_filter, rising_once}
+use Rattle.dt_pages.proofs.Rising.{In, to_contains, from_contains, in_filter, in_at, Rising, rising_low, rising_filter, rising_once}
 use Rattle.dt_pages.proofs.ChangedNodes.{nodes_rising, is_node}
 use Rattle.dt_pages.proofs.Drawn.{takes_page}
 use Rattle.dt_pages.proofs.Redrawn.{AreFresh, decide_in, by_bool, new, after, facts, new_word, same_out, differs_in, keeps, blank_new, some_page, page_in, once_new}
@@ -71,6 +72,32 @@ in_pages numbers page (n ∷ nodes) = go (numbers n == 0) refl (in_pages numbers
         | inr there ↦ inr (rest.1 (f.0, there, f.2, f.3))
       ]),
     )
+
+all_in : (P : ℕ → Type 0) (xs : List ℕ) → ((x : ℕ) → In x xs → P x) → AllByRecursion P xs
+all_in P [] each = tt
+all_in P (x ∷ xs) each = (each x (inl refl), all_in P xs (λ y there. each y (inr there)))
+
+-- nodes that rise have each of their pages once, since no two nodes have one page
+pub distinct_pages : (numbers : Numbering) → IsNumbering numbers → (low : ℕ) (nodes : List ℕ) → Rising low nodes → ((n : ℕ) → In n nodes → IsNode n)
+    → IsDistinct (λ a b. a == b) (pages_of numbers nodes)
+unfolding IsDistinct
+distinct_pages numbers is low [] rise are = tt
+distinct_pages numbers is low (n ∷ nodes) rise are = go (numbers n == 0) refl (distinct_pages numbers is (suc n) nodes rise.1 (λ m there. are m (inr there)))
+  where
+    other : (numbers n == 0) ≡ false → (page : ℕ) → In page (pages_of numbers nodes) → (numbers n == page) ≡ false
+    other some page there = by_bool (numbers n == page)
+        (λ same.
+        let f = (in_pages numbers page nodes).0 there in
+        let high = rising_low (suc n) f.0 nodes rise.1 f.1 in
+        let one : n ≡ f.0 = is.once n f.0 (are n (inl refl)) (are f.0 (inr f.1)) (λ none. true≢false (sym (eq-eqb (numbers n) 0 none) ∙ some))
+        (eqb-true (numbers n) page same ∙ sym f.2) in
+        absurd (omega (arith, high, one)))
+        (λ apart. apart)
+
+    go : (b : Bool) → (numbers n == 0) ≡ b → IsDistinct (λ a b. a == b) (pages_of numbers nodes)
+        → IsDistinct (λ a b. a == b) (cond b (pages_of numbers nodes) (numbers n ∷ pages_of numbers nodes))
+    go true none rest = rest
+    go false some rest = (all_in (λ page. (numbers n == page) ≡ false) (pages_of numbers nodes) (other some), rest)
 
 module _ (numbers : Numbering) (drafted : Drafted) (within : (q : ℕ) → addresses ≤ q → get drafted q ≡ None) (numbered : IsNumbering numbers)
     (pages : List ℕ) (free : AreFree numbers pages) where
@@ -186,4 +213,6 @@ module _ (numbers : Numbering) (drafted : Drafted) (within : (q : ℕ) → addre
               ∙ sym (ap (λ (f : Numbering). f (child node at)) is);
           top = top ∙ sym (ap (λ (f : Numbering). f top_node) is);
           gone = subst (λ (f : Numbering). AreGone numbers f plan.gone) (sym is) (subst (AreGone numbers now) (sym gone) goes);
+          gone_once = subst (IsDistinct (λ a b. a == b)) (sym gone)
+              (distinct_pages numbers numbered addresses nodes (nodes_rising numbers drafted within) (is_node numbers drafted within));
         }

@@ -1,5 +1,6 @@
 -- What a new version of a tree needs: the pages to write and their words, the new top, and the pages that it has no more.
-use Rattle.std.specs.Prelude.{◌≡◌, ℕ, ◌<◌, ◌&&◌, nat_lt, if◌then◌else◌, List, [], length, get_or, Option, Some, None, refl}
+use Rattle.std.specs.Prelude.{◌≡◌, ℕ, ◌<◌, ◌==◌, ◌&&◌, nat_lt, if◌then◌else◌, List, [], length, get_or, Option, Some, None, refl}
+use Rattle.std.specs.List.{IsDistinct}
 use Rattle.std.specs.Coded.{Coded, code_by, coded×, coded_list, coded_ℕ}
 use Rattle.std.specs.FinMap as finite
 use Rattle.dt_pages.specs.Reading.{addresses, page_words}
@@ -31,7 +32,8 @@ planned_word plan place at =
     if nat_lt place (length plan.contents) && nat_lt at page_words then Some (get_or (get_or plan.contents place []) at 0) else None
 
 -- the plan of a draft over a numbering, with the pages of a list: the words are those of the draft; the numbers follow with all pages
--- of the list; each page is to have what stands at its node's places; and the top and the pages that go are those of the new numbering
+-- of the list; each page is to have what stands at its node's places; and the top and the pages that go, each listed once, are those of
+-- the new numbering
 pub record IsPlan (numbers : Numbering) (drafted : Drafted) (list : List ℕ) (plan : Planned) : Type 0 where
   pub words : (address : ℕ) → address < addresses → laid_over plan.changes numbers address ≡ laid_over drafted numbers address
   pub follows : Follows numbers (laid_over plan.changes numbers) list
@@ -41,3 +43,4 @@ pub record IsPlan (numbers : Numbering) (drafted : Drafted) (list : List ℕ) (p
       → get_or (get_or plan.contents place []) at 0 ≡ laid_over plan.changes numbers (child node at)
   pub top : plan.top ≡ laid_over plan.changes numbers top_node
   pub gone : AreGone numbers (laid_over plan.changes numbers) plan.gone
+  pub gone_once : IsDistinct (λ a b. a == b) plan.gone

@@ -79,7 +79,7 @@ impl Plan {
         self.top
     }
 
-    /// The pages of the old version, other than page 0, that the new one has no more.
+    /// The pages of the old version, other than page 0, that the new one has no more, each once.
     pub fn gone(&self) -> &[u32]
         ensures { result.now ≡ self.now.gone }
     {
