@@ -85,7 +85,8 @@ who_is_near_may_not_leave may = may
 
 -- ---- pages
 
--- a gate whose words are all 0 past the end of a list, so that a page reaches no other but page 0; the free root 2 has top page 15
+-- a gate whose words are all 0 past the end of a list, so that a page reaches no other but page 0; the free root 2 has top
+-- page 15
 abbrev bare : Gate ℕ ℕ
 bare = with_author (record busy_author { words = []; roots = old_root ∷ current_root ∷ record laid_root { top = 15 } ∷ [] })
 

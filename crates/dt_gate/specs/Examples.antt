@@ -81,7 +81,8 @@ pub record PastTheLimit : Type 0 where
 abbrev pub counted : Reading → List ℕ → Type 0
 counted reading items = reading 0 ≡ length items
 
--- one page of each level is filled, so that address 0 has the word 1; a root is laid with the first as its top page, and published
+-- one page of each level is filled, so that address 0 has the word 1; a root is laid with the first as its top page, and
+-- published
 abbrev pub filled_and_published : List (Event ℕ ℕ)
 filled_and_published = Fill 1 0 2 ∷ Fill 2 0 3 ∷ Fill 3 0 1 ∷ laying 1 ++ Publish 1 7 ∷ []
 

@@ -10,7 +10,8 @@ use Rattle.dt_mrd.specs.Reading.{owns, cell_at}
 use Rattle.dt_mrd.specs.Placing.{HasRoom, Rows, code_of}
 use Rattle.dt_mrd.specs.Kept.{AreUsed}
 
--- a row has a cell for the class now: one that had its turn its new indexes, one that waits those of its old ones that are used still
+-- a row has a cell for the class now: one that had its turn its new indexes, one that waits those of its old ones that are
+-- used still
 abbrev pub HasNow : Rows → (Row → Bool) → Row → ℕ → Type 0
 HasNow rows done row class =
     ((done row ≡ true) × HasIndex rows.next row class) ⊎ ((done row ≡ false) × HasIndex rows.held row class × HasIndex rows.next row class)

@@ -71,9 +71,9 @@ abbrev pub IsOver : Turn → (ℕ → Option KeptRow) → (ℕ → Option KeptRo
 IsOver turn rows rows_then used taken d used_then taken_then then_words =
     HasNoTurn turn rows rows_then used taken d used_then taken_then then_words ⊎ HasTurn turn rows rows_then used taken d used_then taken_then then_words
 
--- The turns are those of the rows that changes touch, in the order of placing. The rows of before are kept still, under none of
--- the fresh keys. The rows of after are kept too: those with a turn under fresh keys, and with tags that don't matter yet; all others
--- under the keys of before.
+-- The turns are those of the rows that changes touch, in the order of placing. The rows of before are kept still, under
+-- none of the fresh keys. The rows of after are kept too: those with a turn under fresh keys, and with tags that don't
+-- matter yet; all others under the keys of before.
 pub record AreTurns (x : Reading) (held : Held) (changes : List Change) (roots roots_then : List (Option ℕ)) (rows : ℕ → Option KeptRow) (fresh : List ℕ) (turns : List Turn) : Type 0 where
   -- the rows of before stand as they stood before the batch
   pub old_rows : AreKept roots rows fresh (tag_read x) held

@@ -18,8 +18,8 @@ use std::alloc::Global;
 /// The rows of what is held under keys, each with the keys of the rows to which it leads, and which cells and displacements
 /// are used.
 ///
-/// A row takes an entry of an ordered map for each of its cells. A batch copies the rows that have a change below them, and no other:
-/// the rows of before stand beside the new ones until the batch is settled.
+/// A row takes an entry of an ordered map for each of its cells. A batch copies the rows that have a change below them, and
+/// no other: the rows of before stand beside the new ones until the batch is settled.
 #[derive(Debug, Drop)]
 pub(crate) struct KeptRows {
     // The least arity that is served.

@@ -31,7 +31,8 @@ abbrev pub one_leaf_last : Image
 one_leaf_last = from_sorted ((0, 1) ∷ (4096, 1) ∷ (4097, 1) ∷ (4098, 1) ∷ (4099, 1) ∷ (8192, 1) ∷ (8193, 2) ∷ (8194, 3) ∷ (8195, 4)
     ∷ (67108864, 4294967300) ∷ (67108865, 8589934595) ∷ (67108866, 12884901891) ∷ (67108867, 17179869187) ∷ [])
 
--- the top, two middle nodes and six leaves, or four; then the leaves with their cells and the two nodes above them; then one of these
+-- the top, two middle nodes and six leaves, or four; then the leaves with their cells and the two nodes above them; then
+-- one of these
 pub record NeedsOfFourSelectors : Type 0 where
   pub own_leaves_first : need empty own_leaves ≡ 9
   pub own_leaves_second : need own_leaves own_leaves_changed ≡ 6

@@ -40,8 +40,8 @@ pub record AreFree (numbers : Numbering) (pages : List ℕ) : Type 0 where
   pub no_node : (node : ℕ) → IsNode node → ¬ Contains pages (numbers node)
   pub each_once : (j k : ℕ) → j < length pages → k < length pages → get_or pages j 0 ≡ get_or pages k 0 → j ≡ k
 
--- another numbering that has these pages more: a node keeps its number exactly where all that stands below it stays, each other node
--- below which a word is set has a page of the list, and each page of the list has a node
+-- another numbering that has these pages more: a node keeps its number exactly where all that stands below it stays, each
+-- other node below which a word is set has a page of the list, and each page of the list has a node
 pub record Follows (old new : Numbering) (pages : List ℕ) : Type 0 where
   pub numbers : IsNumbering new
   pub keeps : (node : ℕ) → IsNode node → (new node ≡ old node) ↔ ((at : ℕ) → at < page_words → new (child node at) ≡ old (child node at))

@@ -37,8 +37,8 @@ pub record HoldsPlan (memory after : Pages) (old : Numbering) (plan : Planned) :
   pub old_stay : (node : ℕ) → IsNode node → (at : ℕ) → at < page_words → after (old node) at ≡ memory (old node) at
   pub words : (place at : ℕ) → place < length plan.pages → at < page_words → after (get_or plan.pages place 0) at ≡ get_or (get_or plan.contents place []) at 0
 
--- so once a plan's words stand in its pages, the old tree still stands, the new one stands too, and from the new top the words of the
--- draft over those of the old tree are read
+-- so once a plan's words stand in its pages, the old tree still stands, the new one stands too, and from the new top the
+-- words of the draft over those of the old tree are read
 abbrev pub WrittenPlansAreRead : Type 0
 WrittenPlansAreRead = (memory after : Pages) (old : Numbering) (drafted : Drafted) (list : List ℕ) (plan : Planned) → IsNumbering old → StandsIn memory old
     → IsPlan old drafted list plan → HoldsPlan memory after old plan

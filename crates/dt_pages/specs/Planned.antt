@@ -7,7 +7,8 @@ use Rattle.dt_pages.specs.Reading.{addresses, page_words}
 use Rattle.dt_pages.specs.Draft.{Drafted, laid_over}
 use Rattle.dt_pages.specs.Numbering.{Numbering, IsNode, top_node, child, Follows, AreGone}
 
--- the words and page numbers that change, by position; the pages to write and the words of each; the new top; and the pages that go
+-- the words and page numbers that change, by position; the pages to write and the words of each; the new top; and the pages
+-- that go
 pub record Planned : Type 0 where
   pub changes : Drafted
   pub pages : List ℕ
@@ -31,9 +32,9 @@ abbrev pub planned_word : Planned → ℕ → ℕ → Option ℕ
 planned_word plan place at =
     if nat_lt place (length plan.contents) && nat_lt at page_words then Some (get_or (get_or plan.contents place []) at 0) else None
 
--- the plan of a draft over a numbering, with the pages of a list: the words are those of the draft; the numbers follow with all pages
--- of the list; each page is to have what stands at its node's places; and the top and the pages that go, each listed once, are those of
--- the new numbering
+-- the plan of a draft over a numbering, with the pages of a list: the words are those of the draft; the numbers follow with
+-- all pages of the list; each page is to have what stands at its node's places; and the top and the pages that go, each
+-- listed once, are those of the new numbering
 pub record IsPlan (numbers : Numbering) (drafted : Drafted) (list : List ℕ) (plan : Planned) : Type 0 where
   pub words : (address : ℕ) → address < addresses → laid_over plan.changes numbers address ≡ laid_over drafted numbers address
   pub follows : Follows numbers (laid_over plan.changes numbers) list

@@ -52,7 +52,8 @@ pub fn nodes_are_few()
     ensures regions { NodesInRegionsAreFew }
 {}
 
-/// Beside the empty image each node of an image needs a page, beside the image itself none does, and never more do than there are.
+/// Beside the empty image each node of an image needs a page, beside the image itself none does, and never more do than
+/// there are.
 pub fn need_is_of_nodes()
     ensures first { FirstNeedsAll }
     ensures same { SameNeedsNone }

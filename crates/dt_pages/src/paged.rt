@@ -121,9 +121,9 @@ impl PagedTree {
         &self.tree
     }
 
-    /// What holds of every tree with pages: its image is one, its numbering has the words of the image and is one, so a node has a
-    /// page exactly where a word is set below it, and no page has two nodes. It does nothing: a caller whose reasoning needs this
-    /// calls it.
+    /// What holds of every tree with pages: its image is one, its numbering has the words of the image and is one, so a
+    /// node has a page exactly where a word is set below it, and no page has two nodes. It does nothing: a caller whose
+    /// reasoning needs this calls it.
     pub fn law(&self)
         ensures image { IsImage self.now.image }
         ensures words { (address : ℕ) → address < addresses → numbering self.now address ≡ look_up self.now.image address }
@@ -234,9 +234,9 @@ impl PagedTree {
         Ok(drawing.written.len() as u32)
     }
 
-    /// A plan of the draft: each node below which a word is set and which differs is to be written once, to a page of the list, and
-    /// every other node keeps its page. It costs what `need` does, and the making of a page of words for each page of the list and
-    /// of empty nodes for the words of the draft, at most a leaf of 512 words for each.
+    /// A plan of the draft: each node below which a word is set and which differs is to be written once, to a page of the
+    /// list, and every other node keeps its page. It costs what `need` does, and the making of a page of words for each
+    /// page of the list and of empty nodes for the words of the draft, at most a leaf of 512 words for each.
     pub fn plan(&self, draft: &Draft, pages: &[u32]) -> Result<Plan, NoMemory>
         requires free { AreFree (numbering self.now) pages.now }
         requires enough { length pages.now ≡ need self.now.image (image_under draft.now self.now.image) }

@@ -170,7 +170,8 @@ module _ {M I : Type 0} (shows : Reading → List I → Type 0) (laws : LawsOfRu
             (laws.room (bounds size) running.in_range running.empty (step (bounds size) told.gate (Poll play.root)) running.reached (subst AllOldAreHeld shown held));
       }
 
-  -- what the author is told after a seat was given back: both histories are prefixes, and where no reader is out worn looks are accounted for
+  -- what the author is told after a seat was given back: both histories are prefixes, and where no reader is out worn looks
+  -- are accounted for
   pub record HearIs (size : Size) (author : Author M I) (after : Me ℕ (View M I)) : Type 0 where
     pub kept : AuthorIsKept size author after
     pub prefixes : BothArePrefixes author.joined author.history

@@ -15,8 +15,8 @@ module _ {M I : Type 0} where
     pub seen : IsPrefix old.history new.history
     pub is : new ≡ record old { history = new.history; worn = old.worn ++ (length new.history, entries) ∷ [] }
 
-  -- the reader is inside a root whose version is the length of the history that it has now seen, and whose words show that history;
-  -- it begins with the one seen before; and this version was entered last
+  -- the reader is inside a root whose version is the length of the history that it has now seen, and whose words show that
+  -- history; it begins with the one seen before; and this version was entered last
   pub record HasEntered (shows : Reading → List I → Type 0) (old new : Seat M I) : Type 0 where
     pub root : ℕ
     pub frozen : Frozen

@@ -151,8 +151,8 @@ impl<'s, M: Meaning> Author<'s, M> {
         }
     }
 
-    /// Publishes the version that is laid in a root: one swap of the version word. The history has the entry last, and the answer is
-    /// the root that was current, with all the entries that were made into it.
+    /// Publishes the version that is laid in a root: one swap of the version word. The history has the entry last, and the
+    /// answer is the root that was current, with all the entries that were made into it.
     pub fn publish(&mut self, root: u16, entry: &M::Item) -> Swapped
         requires { MayPublish M.shows (bounds self.old.store.now.table.shared.key) (author_of self.old.place) root entry.now }
         ensures published { author_of self.new.place ≡ after_publish (author_of self.old.place) root entry.now result.entries }
@@ -201,9 +201,9 @@ impl<'s, M: Meaning> Author<'s, M> {
         }
     }
 
-    /// Takes a reader seat back: two loads of the version word. What it entered and its worn looks go to the author's lists, and its
-    /// history is a prefix of the author's, which stays as it was. Where then no reader is out, the number of each worn look is at
-    /// most how often its version was entered.
+    /// Takes a reader seat back: two loads of the version word. What it entered and its worn looks go to the author's
+    /// lists, and its history is a prefix of the author's, which stays as it was. Where then no reader is out, the number
+    /// of each worn look is at most how often its version was entered.
     pub fn seat_back(&mut self, seat: ReaderSeat<'s, M>)
         requires out { (seat_of seat.place).stage ≡ Out }
         requires of { seat.place.table_id ≡ self.old.place.table_id }

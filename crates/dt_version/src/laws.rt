@@ -10,8 +10,8 @@ pub fn the_rule_is_sound<M: Meaning>()
     laws_of_runs::<M>();
 }
 
-/// Each step that a reader or the author takes is one event of that gate, and so one access of one word: also each by which a seat
-/// or note goes out or comes back, after which the table shows the gate after that event.
+/// Each step that a reader or the author takes is one event of that gate, and so one access of one word: also each by which
+/// a seat or note goes out or comes back, after which the table shows the gate after that event.
 pub fn each_step_is_one_event<M: Meaning>()
     ensures readers { ReaderStepsAreEvents M M.shows }
     ensures author { AuthorStepsAreEvents M M.shows }

@@ -13,8 +13,8 @@ use dt_gate::{Meaning, laws_of_runs};
 use dt_graph::Steps;
 use std::sync::ledger::Ledger;
 
-/// A seat by which one thread reads. It is seen as its store and its seat of the gate: the stage, the history that it has seen, the
-/// versions that it entered, and its worn looks.
+/// A seat by which one thread reads. It is seen as its store and its seat of the gate: the stage, the history that it has
+/// seen, the versions that it entered, and its worn looks.
 #[derive(Drop)]
 pub struct ReaderSeat<'s, M: Meaning> {
     pub(crate) store: &'s Store<M>,
@@ -61,8 +61,8 @@ impl<'s, M: Meaning> ReaderSeat<'s, M> {
         }
     }
 
-    /// Enters the current version: one addition to the version word. The reader is inside its root, whose words show the history that
-    /// the reader has then seen, and stay as they are until it leaves.
+    /// Enters the current version: one addition to the version word. The reader is inside its root, whose words show the
+    /// history that the reader has then seen, and stay as they are until it leaves.
     pub fn enter<L: Ledger>(&mut self, steps: &mut Steps<L>)
         requires { (seat_of self.old.place).stage ≡ Near }
         ensures entered { HasEntered M.shows (seat_of self.old.place) (seat_of self.new.place) }
@@ -165,8 +165,8 @@ impl<'s, M: Meaning> ReaderSeat<'s, M> {
         }
     }
 
-    /// Takes a note: two loads of the version word. The reader has the longer of both histories, of which both are prefixes; it stays
-    /// where it is.
+    /// Takes a note: two loads of the version word. The reader has the longer of both histories, of which both are
+    /// prefixes; it stays where it is.
     pub fn hear(&mut self, note: Note<'s, M>)
         requires { note.place.table_id ≡ self.old.place.table_id }
         ensures heard { seat_of self.new.place ≡ after_hearing (seat_of self.old.place) (seat_of note.entry.place).history }

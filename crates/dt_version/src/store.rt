@@ -31,8 +31,8 @@ impl<M: Meaning> Store<M> {
     ghost use Rattle.dt_pages.specs.Reading.{blank};
     ghost use Rattle.dt_version.specs.Views.{IsFirstSeat};
 
-    /// A store in which all words are 0: version 0 is current at root 0, with no entry and the empty image. Beside it the seat of its
-    /// author. For a moment it takes the memory of the store twice.
+    /// A store in which all words are 0: version 0 is current at root 0, with no entry and the empty image. Beside it the
+    /// seat of its author. For a moment it takes the memory of the store twice.
     pub fn new(alloc: Global, limits: Limits) -> Result<(Store<M>, AuthorSeat<M>), NoMemory>
         requires { M.shows blank [] }
         ensures limits { IfOk result (λ made. made.0.limits ≡ limits) }
