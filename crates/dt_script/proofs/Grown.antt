@@ -22,7 +22,7 @@ first-text : (text : List ℕ) (texts : List (List ℕ)) → AreFirst texts (wit
 first-text text [] = (text ∷ [], refl)
 first-text text (t ∷ ts) = first-step (same_text t text) t ts (with_text text ts) (first-text text ts)
 
-grew_not : (book : NameBook) → GrewAtEnd book book
+pub grew_not : (book : NameBook) → GrewAtEnd book book
 grew_not book = record { classes = first-same book.classes; selectors = first-same book.selectors; bodies = first-same book.bodies }
 
 pub grew_on : (a b c : NameBook) → GrewAtEnd a b → GrewAtEnd b c → GrewAtEnd a c

@@ -7,6 +7,7 @@ pub mod Tokens
 pub mod LineMade
 pub mod Joined
 pub mod Grown
+pub mod OwnNames
 pub mod SameLine
 pub mod SameKinds
 pub mod LawfulBooks

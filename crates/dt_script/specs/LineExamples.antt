@@ -1,7 +1,9 @@
 -- Small worked examples of lines: their words, their names, and the books before and after them.
-use Rattle.std.specs.Prelude.{◌≡◌, ℕ, List, [], ◌∷◌, codes, true, false, refl}
+use Rattle.std.specs.Prelude.{◌≡◌, ℕ, List, [], ◌∷◌, codes, get_or, true, false, refl}
+use Rattle.std.proofs.Common.{ap, arith}
 use Rattle.std.specs.Fmt.{digits}
 use Rattle.dt_script.specs.NameBook.{NameBook, empty_book}
+use Rattle.dt_script.specs.Growth.{GrewAtEnd}
 use Rattle.dt_script.specs.Word.{AreTexts}
 use Rattle.dt_script.specs.Line.{words_of, is_in_range, is_short, LineOf}
 use Rattle.dt_script.specs.declared.line.Line.TheVariants.{Header, AddClass, DropClass, AddSelector, Define, Undefine, Begin, Caller, Call, End}
@@ -66,6 +68,15 @@ call_of_new_names = record {
   numbered = refl;
   in_range = refl;
 }
+
+-- where it is cut short there may be some of its names, of each kind the first
+cut_short : GrewAtEnd (record { classes = codes "A" ∷ []; selectors = codes "f" ∷ []; bodies = [] }) (record { classes = codes "A" ∷ codes "B" ∷ []; selectors = codes "f" ∷ []; bodies = [] })
+cut_short = record { classes = (codes "B" ∷ [], refl); selectors = ([], refl); bodies = ([], refl) }
+
+no_name_before_its_turn : GrewAtEnd (classes_alone (codes "B" ∷ [])) (record { classes = codes "A" ∷ codes "B" ∷ []; selectors = codes "f" ∷ []; bodies = [] }) → ⊥
+no_name_before_its_turn grew =
+    let first : 65 ≡ 66 = ap (λ texts. get_or (get_or texts 0 []) 0 0) grew.classes.1 in
+    omega (arith, first)
 
 caller_of_two_digits : LineOf (codes "caller 12") empty_book (Caller 12) empty_book
 unfolding digits

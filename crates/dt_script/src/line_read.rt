@@ -39,8 +39,9 @@ pub enum LineFault {
 ///
 /// [`LineFault::Malformed`] exactly where the bytes mean something and no line is spelled so; the names are as
 /// they were then.
-/// [`LineFault::NamesFull`] exactly where there is such a line and its new names are more than there may be. After it, and
-/// after [`LineFault::NoMemory`], there may be names more.
+/// [`LineFault::NamesFull`] exactly where there is such a line and its new names are more than there may be, and
+/// [`LineFault::NoMemory`] only where there is such a line. After either there may be names more: of the line's own new
+/// names of each kind the first, and no others.
 pub fn read_line(
     alloc: Global,
     bytes: &[u8],
@@ -55,7 +56,10 @@ pub fn read_line(
     ensures malformed_names { IsErrOf result LineFault.Malformed → names.new ≡ names.old }
     ensures full { IsErrOf result LineFault.NamesFull → (line : Line) × (after : book.NameBook)
         × LineOf bytes.now names.old line after × IsTrue (not (is_within_limits after)) }
+    ensures no_memory { IsErrOf result LineFault.NoMemory → (line : Line) × (after : book.NameBook)
+        × LineOf bytes.now names.old line after }
     ensures grew { GrewAtEnd names.old names.new }
+    ensures own { (line : Line) (after : book.NameBook) → LineOf bytes.now names.old line after → GrewAtEnd names.new after }
     ensures exact { (line : Line) (after : book.NameBook) → LineOf bytes.now names.old line after
         → IsAnswerTo line after result names.new }
 {

@@ -4,7 +4,7 @@ ghost use Rattle.dt_selectors.specs.Names.{is_name};
 ghost use Rattle.dt_script.specs.Cut.{parts_at};
 ghost use Rattle.dt_script.specs.Growth.{GrewAtEnd};
 ghost use Rattle.dt_script.specs.NameBook.{is_within_limits};
-ghost use Rattle.dt_script.specs.Written.{texts_of, texts_of_classes};
+ghost use Rattle.dt_script.specs.Written.{texts_of, texts_of_classes, tokens_of, with_tokens};
 ghost use Rattle.dt_script.specs.NumberedLine.{IsLineNumbered};
 ghost use Rattle.dt_script.specs.declared.written.Written.TheVariants as written;
 
@@ -26,6 +26,7 @@ pub fn number_line(
     requires { IsTrue (list_all is_name (texts_of line.now)) }
     ensures numbered { IsLineNumbered names.old line.now result names.new }
     ensures grew { GrewAtEnd names.old names.new }
+    ensures own { GrewAtEnd names.new (with_tokens names.old (tokens_of line.now)) }
     ensures fits { IsTrue (is_within_limits names.new) }
 {
     let numbered = line_by_kind(alloc, names, line);
@@ -38,6 +39,7 @@ fn line_by_kind(alloc: Global, names: &mut NameBook, line: &Written<'_>) -> Resu
     requires { IsTrue (list_all is_name (texts_of line.now)) }
     ensures numbered { IsLineNumbered names.old line.now result names.new }
     ensures grew { GrewAtEnd names.old names.new }
+    ensures own { GrewAtEnd names.new (with_tokens names.old (tokens_of line.now)) }
 {
     match line {
         Written::Header => Ok(Line::Header),
@@ -70,6 +72,7 @@ fn drop_line(names: &mut NameBook, class: &[u8]) -> Result<Line, NameFault>
     requires { IsTrue (is_name class.now) }
     ensures numbered { IsLineNumbered names.old (written.DropClass class.entry) result names.new }
     ensures grew { GrewAtEnd names.old names.new }
+    ensures own { GrewAtEnd names.new (with_tokens names.old (tokens_of (written.DropClass class.entry))) }
 {
     let class = names.class(class)?;
     Ok(Line::DropClass { class })
@@ -81,6 +84,7 @@ fn link_line(names: &mut NameBook, class: &[u8], parent: &[u8]) -> Result<Line, 
     requires parent { IsTrue (is_name parent.now) }
     ensures numbered { IsLineNumbered names.old (written.Link class.entry parent.entry) result names.new }
     ensures grew { GrewAtEnd names.old names.new }
+    ensures own { GrewAtEnd names.new (with_tokens names.old (tokens_of (written.Link class.entry parent.entry))) }
 {
     let (class, parent) = number_two(names, class, parent)?;
     Ok(Line::Link { class, parent })
@@ -92,6 +96,7 @@ fn unlink_line(names: &mut NameBook, class: &[u8], parent: &[u8]) -> Result<Line
     requires parent { IsTrue (is_name parent.now) }
     ensures numbered { IsLineNumbered names.old (written.Unlink class.entry parent.entry) result names.new }
     ensures grew { GrewAtEnd names.old names.new }
+    ensures own { GrewAtEnd names.new (with_tokens names.old (tokens_of (written.Unlink class.entry parent.entry))) }
 {
     let (class, parent) = number_two(names, class, parent)?;
     Ok(Line::Unlink { class, parent })
@@ -102,6 +107,7 @@ fn selector_line(names: &mut NameBook, selector: &[u8], arity: Arity) -> Result<
     requires { IsTrue (is_name selector.now) }
     ensures numbered { IsLineNumbered names.old (written.AddSelector selector.entry arity) result names.new }
     ensures grew { GrewAtEnd names.old names.new }
+    ensures own { GrewAtEnd names.new (with_tokens names.old (tokens_of (written.AddSelector selector.entry arity))) }
 {
     let selector = names.selector(selector)?;
     Ok(Line::AddSelector { selector, arity })
@@ -112,6 +118,7 @@ fn forget_line(names: &mut NameBook, selector: &[u8]) -> Result<Line, NameFault>
     requires { IsTrue (is_name selector.now) }
     ensures numbered { IsLineNumbered names.old (written.DropSelector selector.entry) result names.new }
     ensures grew { GrewAtEnd names.old names.new }
+    ensures own { GrewAtEnd names.new (with_tokens names.old (tokens_of (written.DropSelector selector.entry))) }
 {
     let selector = names.selector(selector)?;
     Ok(Line::DropSelector { selector })
@@ -127,6 +134,7 @@ fn undefine_line(
     requires classes { IsTrue (list_all is_name (texts_of_classes classes)) }
     ensures numbered { IsLineNumbered names.old (written.Undefine selector.entry classes.entry) result names.new }
     ensures grew { GrewAtEnd names.old names.new }
+    ensures own { GrewAtEnd names.new (with_tokens names.old (tokens_of (written.Undefine selector.entry classes.entry))) }
 {
     let selector = names.selector(selector)?;
     let classes = number_classes(names, classes)?;
@@ -139,6 +147,7 @@ fn call_line(names: &mut NameBook, selector: &[u8], classes: Classes<'_>) -> Res
     requires classes { IsTrue (list_all is_name (texts_of_classes classes)) }
     ensures numbered { IsLineNumbered names.old (written.Call selector.entry classes.entry) result names.new }
     ensures grew { GrewAtEnd names.old names.new }
+    ensures own { GrewAtEnd names.new (with_tokens names.old (tokens_of (written.Call selector.entry classes.entry))) }
 {
     let selector = names.selector(selector)?;
     let classes = number_classes(names, classes)?;
@@ -178,6 +187,7 @@ fn define_line(
     requires body { IsTrue (is_name body.now) }
     ensures numbered { IsLineNumbered names.old (written.Define selector.entry classes.entry body.entry) result names.new }
     ensures grew { GrewAtEnd names.old names.new }
+    ensures own { GrewAtEnd names.new (with_tokens names.old (tokens_of (written.Define selector.entry classes.entry body.entry))) }
 {
     let selector = names.selector(selector)?;
     let classes = number_classes(names, classes)?;
@@ -194,6 +204,7 @@ fn class_line(alloc: Global, names: &mut NameBook, class: &[u8]) -> Result<Line,
     requires { IsTrue (is_name class.now) }
     ensures numbered { IsLineNumbered names.old (written.AddClass class.entry) result names.new }
     ensures grew { GrewAtEnd names.old names.new }
+    ensures own { GrewAtEnd names.new (with_tokens names.old (tokens_of (written.AddClass class.entry))) }
 {
     let class = names.class(class)?;
     match Parents::new(alloc, &[]) {
@@ -213,6 +224,7 @@ fn subclass_line(
     requires parents { IsTrue (list_all is_name (parts_at 32 parents.now)) }
     ensures numbered { IsLineNumbered names.old (written.AddSubclass class.entry parents.entry) result names.new }
     ensures grew { GrewAtEnd names.old names.new }
+    ensures own { GrewAtEnd names.new (with_tokens names.old (tokens_of (written.AddSubclass class.entry parents.entry))) }
 {
     let class = names.class(class)?;
     let parents = number_parents(alloc, names, Some(parents))?;

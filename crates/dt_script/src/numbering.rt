@@ -29,6 +29,7 @@ pub fn number_two(
     ensures full { IsErrOf result NameFault.NamesFull
         → IsTrue (not (is_within_limits (with_class_name (with_class_name names.old first.now) second.now))) }
     ensures grew { GrewAtEnd names.old names.new }
+    ensures own { GrewAtEnd names.new (with_class_name (with_class_name names.old first.now) second.now) }
 {
     let first = names.class(first)?;
     let second = names.class(second)?;
@@ -40,6 +41,7 @@ pub fn number_classes(names: &mut NameBook, classes: Classes<'_>) -> Result<Tupl
     requires { IsTrue (list_all is_name (texts_of_classes classes)) }
     ensures numbered { IsNumbered names.old (texts_of_classes classes.entry) result names.new }
     ensures grew { GrewAtEnd names.old names.new }
+    ensures own { GrewAtEnd names.new (with_classes names.old (texts_of_classes classes.entry)) }
 {
     match classes {
         Classes::One(a) => one_class(names, a),
@@ -65,6 +67,7 @@ fn one_class(names: &mut NameBook, a: &[u8]) -> Result<Tuple, NameFault>
     requires { IsTrue (is_name a.now) }
     ensures numbered { IsNumbered names.old (a.now ∷ []) result names.new }
     ensures grew { GrewAtEnd names.old names.new }
+    ensures own { GrewAtEnd names.new (with_classes names.old (a.now ∷ [])) }
 {
     let a = names.class(a)?;
     Ok(tuple_of(&[a]))
@@ -76,6 +79,7 @@ fn two_classes(names: &mut NameBook, a: &[u8], b: &[u8]) -> Result<Tuple, NameFa
     requires b { IsTrue (is_name b.now) }
     ensures numbered { IsNumbered names.old (a.now ∷ b.now ∷ []) result names.new }
     ensures grew { GrewAtEnd names.old names.new }
+    ensures own { GrewAtEnd names.new (with_classes names.old (a.now ∷ b.now ∷ [])) }
 {
     let (a, b) = number_two(names, a, b)?;
     Ok(tuple_of(&[a, b]))
@@ -88,6 +92,7 @@ fn three_classes(names: &mut NameBook, a: &[u8], b: &[u8], c: &[u8]) -> Result<T
     requires c { IsTrue (is_name c.now) }
     ensures numbered { IsNumbered names.old (a.now ∷ b.now ∷ c.now ∷ []) result names.new }
     ensures grew { GrewAtEnd names.old names.new }
+    ensures own { GrewAtEnd names.new (with_classes names.old (a.now ∷ b.now ∷ c.now ∷ [])) }
 {
     let (a, b) = number_two(names, a, b)?;
     let c = names.class(c)?;
@@ -108,6 +113,7 @@ fn four_classes(
     requires d { IsTrue (is_name d.now) }
     ensures numbered { IsNumbered names.old (a.now ∷ b.now ∷ c.now ∷ d.now ∷ []) result names.new }
     ensures grew { GrewAtEnd names.old names.new }
+    ensures own { GrewAtEnd names.new (with_classes names.old (a.now ∷ b.now ∷ c.now ∷ d.now ∷ [])) }
 {
     let (a, b) = number_two(names, a, b)?;
     let (c, d) = number_two(names, c, d)?;
@@ -127,6 +133,7 @@ pub fn number_parents(
     ensures full { IsErrOf result NameFault.NamesFull
         → IsTrue (not (is_within_limits (with_classes names.old (words_left (option_copied words.entry))))) }
     ensures grew { GrewAtEnd names.old names.new }
+    ensures own { GrewAtEnd names.new (with_classes names.old (words_left (option_copied words.entry))) }
 {
     let mut parents = Vec::new(alloc);
     let mut left = words;

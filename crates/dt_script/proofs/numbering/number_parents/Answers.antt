@@ -12,6 +12,7 @@ use Rattle.dt_script.proofs.Grown.{grew_on}
 use Rattle.dt_script.proofs.HandedOn.{handed_on}
 use Rattle.dt_script.proofs.NumbersStay.{full_class, parents_step}
 use Rattle.dt_script.proofs.WrittenTexts.{left_words}
+use Rattle.dt_script.proofs.OwnNames.{own_before, own_left, classes_grow}
 use Rattle.dt_script.proofs.numbering.number_parents.Goals as goal
 
 pub class-requires : goal.class-requires
@@ -50,3 +51,15 @@ pub returns-clause-numbers : goal.returns-clause-numbers
 returns-clause-numbers c =
     let all = rw c.in_default.is at c.loop-left.invariant.numbers in
     sym (all c.loop-left.names refl ∙ append-nil c.loop-left.parents.items)
+
+pub returns-in_err-class-clause-own : goal.returns-in_err-class-clause-own
+returns-in_err-class-clause-own c =
+    own_left c.args.names.now c.loop-left.names c.class.new.self (words_left (option_copied c.args.words)) (words_left (option_copied c.loop-left.left)) c.loop-left.invariant.book
+    (own_before c.loop-left.names c.class.new.self (words_left (option_copied c.loop-left.left)) c.in_err-class.ensures.err)
+
+pub returns-in_err-push-clause-own : goal.returns-in_err-push-clause-own
+returns-in_err-push-clause-own c =
+    let words = left_words c.loop-left.left c.cut_word.result.1 c.in-Some.bytes c.cut_word.result.0.now c.in-Some.is c.cut_word.ensures in
+    let rest = words_left (option_copied c.cut_word.result.1) in
+    own_left c.args.names.now c.class.new.self c.class.new.self (words_left (option_copied c.args.words)) rest
+    (c.loop-left.invariant.book ∙ ap (λ l. with_classes c.loop-left.names l) words ∙ ap (λ b. with_classes b rest) (sym c.in_ok-class.ensures.ok)) (classes_grow c.class.new.self rest)
