@@ -1,7 +1,7 @@
 use dt_trials::Chance;
 
 /// How many arguments the selectors of a small program take.
-#[derive(Clone, Copy, Debug, PartialEq, Eq)]
+#[derive(Clone, Copy)]
 pub enum Arities {
     /// One; one in six takes two.
     MostlyOne,

@@ -29,16 +29,15 @@ struct Placed {
 }
 
 // Nothing has a place.
-fn nothing_placed(alloc: Global, rules: &Rules) -> Result<Placed, Fault> {
+fn nothing_placed(alloc: Global, rules: &Rules) -> Placed {
     let width = match rules.singles {
         Singles::Placed { width } => width,
         _ => 1,
     };
-    let placing = Placing::new(alloc, width)?;
-    Ok(Placed {
-        placing,
-        rows: Rows::new(alloc, rules.least)?,
-    })
+    Placed {
+        placing: Placing::new(alloc, width),
+        rows: Rows::new(alloc, rules.least),
+    }
 }
 
 // Whether the selectors of one argument have cells of their own, and the others rows in the master array.
@@ -52,17 +51,28 @@ fn is_placed(rules: &Rules) -> bool {
 }
 
 impl Beside {
-    /// The empty program.
-    pub fn new(alloc: Global, rules: &Rules) -> Result<Beside, Fault> {
-        let program = Program::new(alloc)?;
-        let placed = nothing_placed(alloc, rules)?;
-        Ok(Beside {
+    // A program with nowhere to place anything.
+    fn of(alloc: Global, rules: &Rules, program: Program) -> Beside {
+        Beside {
             rules: *rules,
             program,
-            placed,
+            placed: nothing_placed(alloc, rules),
             parts: Parts::new(),
-            image: Image::new(alloc, &rules.blocks)?,
-        })
+            image: Image::new(alloc, &rules.blocks),
+        }
+    }
+
+    /// The empty program, and nowhere to place anything before [`Beside::fill`].
+    pub fn new(alloc: Global, rules: &Rules) -> Result<Beside, Fault> {
+        let program = Program::new(alloc)?;
+        Ok(Beside::of(alloc, rules, program))
+    }
+
+    /// All cells and words come, none of them used.
+    pub fn fill(&mut self, alloc: Global) -> Result<(), Fault> {
+        self.placed.placing.fill(alloc)?;
+        self.placed.rows.fill(alloc)?;
+        self.image.fill(alloc)
     }
 
     /// The program of a table stands here, too.

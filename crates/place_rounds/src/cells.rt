@@ -48,8 +48,8 @@ fn cell_word(program: &Program, selector: u16, class: u16) -> u64 {
 /// The words of the cells of a selector in this program.
 pub fn cells_of(program: &Program, selector: u16) -> Cells {
     let mut cells = [0; 12];
-    for (word, class) in cells.iter_mut().zip(CLASS_NUMBERS.iter()) {
-        *word = cell_word(program, selector, *class);
+    for index in 0..12usize {
+        cells[index] = cell_word(program, selector, CLASS_NUMBERS[index]);
     }
     cells
 }
@@ -57,8 +57,8 @@ pub fn cells_of(program: &Program, selector: u16) -> Cells {
 /// How many cells differ.
 pub fn count_changes(old: &Cells, new: &Cells) -> u32 {
     let mut changes: u32 = 0;
-    for (before, now) in old.iter().zip(new.iter()) {
-        if before != now {
+    for index in 0..12usize {
+        if old[index] != new[index] {
             changes = changes.saturating_add(1);
         }
     }

@@ -11,6 +11,12 @@ const BODIES: u16 = 5;
 // So many definitions are taken away at most for one selector or class.
 const MANY: u16 = 200;
 
+// Whether the program, to which the edit is applied, accepts it; one in sixteen of those that it refuses is wanted, too.
+fn is_wanted(chance: &mut Chance, trial: &mut Program, edit: &Edit) -> Result<bool, Fault> {
+    let is_accepted = is_applied(trial, edit)?;
+    Ok(is_accepted || chance.below(16) == 0)
+}
+
 // Puts the edit last where the program, to which it is applied, accepts it; one in sixteen of those that it refuses comes
 // too.
 fn push_edit(
@@ -19,10 +25,31 @@ fn push_edit(
     batch: &mut Batch,
     edit: Edit,
 ) -> Result<(), Fault> {
-    if is_applied(trial, &edit)? || chance.below(16) == 0 {
-        return put(batch, edit);
+    match is_wanted(chance, trial, &edit) {
+        Ok(true) => put(batch, edit),
+        Ok(false) => Ok(()),
+        Err(fault) => Err(fault),
     }
-    Ok(())
+}
+
+// Whether the class is to come below this one.
+fn is_drawn(chance: &mut Chance, program: &Program, class_no: ClassNo, parent: ClassNo) -> bool {
+    parent != class_no && program.is_live(parent) && chance.below(8) == 0
+}
+
+// Lists some of the other classes that are live.
+fn list_some(
+    chance: &mut Chance,
+    program: &Program,
+    class_no: ClassNo,
+    listed: &mut ArrayVec<ClassNo, 12>,
+) {
+    for number in &CLASS_NUMBERS {
+        let parent = class(*number);
+        if is_drawn(chance, program, class_no, parent) {
+            let _ = listed.try_push(parent);
+        }
+    }
 }
 
 // The class comes below some of the others that are live.
@@ -33,12 +60,7 @@ fn draw_below(
     class_no: ClassNo,
 ) -> Result<Edit, Fault> {
     let mut listed: ArrayVec<ClassNo, 12> = ArrayVec::new();
-    for number in CLASS_NUMBERS {
-        let parent = class(number);
-        if parent != class_no && program.is_live(parent) && chance.below(8) == 0 {
-            let _ = listed.try_push(parent);
-        }
-    }
+    list_some(chance, program, class_no, &mut listed);
     let parents = Parents::new(alloc, listed.as_slice())?;
     Ok(Edit::AddClass {
         class: class_no,
@@ -221,6 +243,18 @@ fn push_dropped(
     push_edit(chance, trial, batch, Edit::DropClass { class })
 }
 
+// A class comes.
+fn push_new(
+    alloc: Global,
+    chance: &mut Chance,
+    trial: &mut Program,
+    batch: &mut Batch,
+    class: ClassNo,
+) -> Result<(), Fault> {
+    let edit = draw_below(alloc, chance, trial, class)?;
+    push_edit(chance, trial, batch, edit)
+}
+
 // A class comes where it isn't live. Where it is, and no class is below it, it goes.
 fn push_class(
     alloc: Global,
@@ -230,13 +264,20 @@ fn push_class(
 ) -> Result<(), Fault> {
     let class = draw_class(chance);
     if !trial.is_live(class) {
-        let edit = draw_below(alloc, chance, trial, class)?;
-        return push_edit(chance, trial, batch, edit);
+        return push_new(alloc, chance, trial, batch, class);
     }
     if trial.graph().below_count(class) == 1 {
         return push_dropped(chance, trial, batch, class);
     }
     Ok(())
+}
+
+// Draws an edit of one link or one definition.
+fn push_one(chance: &mut Chance, trial: &mut Program, batch: &mut Batch) -> Result<(), Fault> {
+    match draw_edit(chance, trial) {
+        Some(edit) => push_edit(chance, trial, batch, edit),
+        None => Ok(()),
+    }
 }
 
 // Draws an edit, or some that belong together.
@@ -250,10 +291,7 @@ fn push_drawn(
     match chance.below(14) {
         0 | 1 => push_renewed(chance, arities, trial, batch),
         2 => push_class(alloc, chance, trial, batch),
-        _ => match draw_edit(chance, trial) {
-            Some(edit) => push_edit(chance, trial, batch, edit),
-            None => Ok(()),
-        },
+        _ => push_one(chance, trial, batch),
     }
 }
 
@@ -265,8 +303,7 @@ fn fill_classes(
     batch: &mut Batch,
 ) -> Result<(), Fault> {
     for number in CLASS_NUMBERS {
-        let edit = draw_below(alloc, chance, trial, class(number))?;
-        push_edit(chance, trial, batch, edit)?;
+        push_new(alloc, chance, trial, batch, class(number))?;
     }
     Ok(())
 }
@@ -303,6 +340,18 @@ fn fill(
     Ok(())
 }
 
+// All classes come, and all selectors.
+fn fill_first(
+    alloc: Global,
+    chance: &mut Chance,
+    arities: Arities,
+    trial: &mut Program,
+    batch: &mut Batch,
+) -> Result<(), Fault> {
+    fill_classes(alloc, chance, trial, batch)?;
+    fill_selectors(chance, arities, trial, batch)
+}
+
 /// The first batch of the empty program, to which it is applied: all classes and all selectors, with some definitions.
 pub fn first_batch(
     alloc: Global,
@@ -311,8 +360,7 @@ pub fn first_batch(
     trial: &mut Program,
 ) -> Result<Batch, Fault> {
     let mut batch = Batch::new(alloc);
-    fill_classes(alloc, chance, trial, &mut batch)?;
-    fill_selectors(chance, arities, trial, &mut batch)?;
+    fill_first(alloc, chance, arities, trial, &mut batch)?;
     Ok(batch)
 }
 

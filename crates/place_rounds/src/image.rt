@@ -33,9 +33,10 @@ pub struct Image {
     master: Vec<u64>,
 }
 
-// So many zeros.
-fn zeros(alloc: Global, count: usize) -> Result<Vec<u64>, Fault> {
-    Ok(vec![in alloc; 0; count]?)
+// So many zeros take the place of these words.
+fn set_zeros(alloc: Global, words: &mut Vec<u64>, count: usize) -> Result<(), Fault> {
+    *words = vec![in alloc; 0; count]?;
+    Ok(())
 }
 
 // How many of the words, from this address on, the tree has otherwise.
@@ -66,6 +67,13 @@ fn count_wrong_cells(tree: &Tree, blocks: &[u32; 16], words: &[u64]) -> u32 {
     wrong
 }
 
+// All words are 0.
+fn clear(words: &mut Vec<u64>) {
+    for word in words {
+        *word = 0;
+    }
+}
+
 /// How many words of the tree are set, at all its addresses.
 pub fn count_words(tree: &Tree) -> u32 {
     let mut count: u32 = 0;
@@ -78,29 +86,28 @@ pub fn count_words(tree: &Tree) -> u32 {
 }
 
 impl Image {
-    /// No word is set, and these blocks of cells are looked at.
-    pub fn new(alloc: Global, blocks: &[u32; 16]) -> Result<Image, Fault> {
-        let heads = zeros(alloc, HEADS)?;
-        let cells = zeros(alloc, CELLS)?;
-        Ok(Image {
+    /// There is no word before [`Image::fill`], and these blocks of cells are looked at.
+    pub fn new(alloc: Global, blocks: &[u32; 16]) -> Image {
+        Image {
             blocks: *blocks,
-            heads,
-            cells,
-            master: zeros(alloc, CELLS)?,
-        })
+            heads: Vec::new(alloc),
+            cells: Vec::new(alloc),
+            master: Vec::new(alloc),
+        }
+    }
+
+    /// All words come, each 0.
+    pub fn fill(&mut self, alloc: Global) -> Result<(), Fault> {
+        set_zeros(alloc, &mut self.heads, HEADS)?;
+        set_zeros(alloc, &mut self.cells, CELLS)?;
+        set_zeros(alloc, &mut self.master, CELLS)
     }
 
     /// All words are 0 again.
     pub fn clear(&mut self) {
-        for word in &mut self.heads {
-            *word = 0;
-        }
-        for word in &mut self.cells {
-            *word = 0;
-        }
-        for word in &mut self.master {
-            *word = 0;
-        }
+        clear(&mut self.heads);
+        clear(&mut self.cells);
+        clear(&mut self.master);
     }
 
     /// The word of a class or a selector, or a place word.

@@ -6,9 +6,9 @@ use dt_definitions::Program;
 
 // Lays the cells of a selector in its block.
 fn lay_cells(image: &mut Image, block: u32, cells: &Cells) {
-    for (word, class) in cells.iter().zip(CLASS_NUMBERS.iter()) {
-        if *word != 0 {
-            image.set_cell(cell_number(2048, block, *class), *word);
+    for index in 0..12usize {
+        if cells[index] != 0 {
+            image.set_cell(cell_number(2048, block, CLASS_NUMBERS[index]), cells[index]);
         }
     }
 }

@@ -3,6 +3,8 @@
 //! placing, on programs and batches by chance; and the words of four programs that are known.
 #![tactic(auto)]
 
+ghost use Rattle.std.specs.Prelude.{◌≤◌};
+
 mod arities;
 mod beside;
 mod cells;
@@ -23,7 +25,7 @@ mod small;
 mod understood;
 mod worked;
 
-use dt_cells::Pair;
+use dt_cells::{Pair, TableKind};
 use dt_colour::Colour;
 use dt_mrd::Mrd;
 use dt_row::Row;
@@ -32,78 +34,67 @@ use dt_trials::Fault;
 use met::Met;
 use rounds::play;
 use rows_met::RowsMet;
-use rules::{ALL_ALONG, BESIDE_COLOURS, BESIDE_INDEXED, BESIDE_ROWS, COLOURS, ROWS};
+use rules::{ALL_ALONG, BESIDE_COLOURS, BESIDE_INDEXED, BESIDE_ROWS, COLOURS, ROWS, Rules};
 use std::io;
 use std::process::ExitCode;
 use worked::print_worked;
 
-// Prints what was met under a kind.
-fn print_met(rt: &impl Print, name: &str, met: Met) -> io::Result<()> {
-    let Met {
-        committed,
-        refused,
-        arities,
-        changes,
-        came,
-        stayed: [stayed, above],
-        moved: [moved, over_own],
-        went,
-        compared,
-        wrong,
-        ..
-    } = met;
+// Prints the batches that were met under a kind, and how many selectors took another number of arguments.
+fn print_batches(rt: &impl Print, name: &str, met: &Met, arities: u32) -> io::Result<()> {
+    let (committed, refused) = (met.committed, met.refused);
     println!(rt;
         "{name} | batches committed {committed} | refused {refused} | other arities {arities}"
-    )?;
-    println!(rt; "  cells changed {changes} | places got {came} | lost {went}")?;
-    println!(rt;
-        "  places kept {stayed}, above a lower one {above} | left {moved}, for one over own cells {over_own}"
-    )?;
-    println!(rt; "  words compared {compared} | told wrongly {wrong}")
+    )
 }
 
-// Prints what was met of rows in the master array.
-fn print_turns(rt: &impl Print, met: &RowsMet) -> io::Result<()> {
-    let RowsMet {
-        came,
-        again,
-        stayed: [stayed, above],
-        moved: [moved, over_own],
-        went,
-        had,
-        lengths: [none, one, two, three],
-        highest,
-        ..
-    } = *met;
-    println!(rt; "  rows came {came}, again {again} | went {went}")?;
+// Prints the places that selectors got and lost.
+fn print_got(rt: &impl Print, met: &Met) -> io::Result<()> {
+    let (changes, came, went) = (met.changes, met.came, met.went);
+    println!(rt; "  cells changed {changes} | places got {came} | lost {went}")
+}
+
+// Prints the places that selectors kept and left.
+fn print_kept(rt: &impl Print, met: &Met) -> io::Result<()> {
+    let [stayed, above] = met.stayed;
+    let [moved, over_own] = met.moved;
+    println!(rt;
+        "  places kept {stayed}, above a lower one {above} | left {moved}, for one over own cells {over_own}"
+    )
+}
+
+// Prints the rows that came and went.
+fn print_came(rt: &impl Print, met: &RowsMet) -> io::Result<()> {
+    let (came, again, went) = (met.came, met.again, met.went);
+    println!(rt; "  rows came {came}, again {again} | went {went}")
+}
+
+// Prints the rows that stayed and moved.
+fn print_stayed(rt: &impl Print, met: &RowsMet) -> io::Result<()> {
+    let ([stayed, above], [moved, over_own], had) = (met.stayed, met.moved, met.had);
     println!(rt;
         "  rows stayed {stayed}, above a lower one {above} | moved {moved}, over own cells {over_own} | passed over one of another {had}"
-    )?;
+    )
+}
+
+// Prints the rows by the lengths of their prefixes.
+fn print_lengths(rt: &impl Print, met: &RowsMet) -> io::Result<()> {
+    let ([none, one, two, three], highest) = (met.lengths, met.highest);
     println!(rt;
         "  rows of no class {none} | one {one} | two {two} | three {three} | highest displacement {highest}"
     )
 }
 
-// Prints the batches that were met under a kind with rows in the master array.
-fn print_batches(rt: &impl Print, name: &str, met: &Met) -> io::Result<()> {
-    let Met {
-        committed,
-        refused,
-        ..
-    } = *met;
-    let arities = met.rows.arities;
-    println!(rt;
-        "{name} | batches committed {committed} | refused {refused} | other arities {arities}"
-    )
+// Prints what was met of rows in the master array.
+fn print_turns(rt: &impl Print, met: &RowsMet) -> io::Result<()> {
+    print_came(rt, met)?;
+    print_stayed(rt, met)?;
+    print_lengths(rt, met)
 }
 
 // Prints the selectors that went from one part of a pair to the other.
 fn print_parts(rt: &impl Print, met: &RowsMet) -> io::Result<()> {
-    let RowsMet {
-        parts: [forth, back],
-        with_cells: [cells_forth, cells_back],
-        ..
-    } = *met;
+    let [forth, back] = met.parts;
+    let [cells_forth, cells_back] = met.with_cells;
     println!(rt;
         "  selectors to the second part {forth}, with cells in both {cells_forth} | back {back}, with cells in both {cells_back}"
     )
@@ -111,55 +102,80 @@ fn print_parts(rt: &impl Print, met: &RowsMet) -> io::Result<()> {
 
 // Prints how many words were compared.
 fn print_compared(rt: &impl Print, met: &Met) -> io::Result<()> {
-    let Met {
-        compared,
-        wrong,
-        ..
-    } = *met;
+    let (compared, wrong) = (met.compared, met.wrong);
     println!(rt; "  words compared {compared} | told wrongly {wrong}")
+}
+
+// Prints what was met under a kind for queries of one class alone.
+fn print_single(rt: &impl Print, name: &str, met: &Met) -> io::Result<()> {
+    print_batches(rt, name, met, met.arities)?;
+    print_got(rt, met)?;
+    print_kept(rt, met)?;
+    print_compared(rt, met)
 }
 
 // Prints what was met under multiple row displacement alone.
 fn print_along(rt: &impl Print, name: &str, met: &Met) -> io::Result<()> {
-    print_batches(rt, name, met)?;
+    print_batches(rt, name, met, met.rows.arities)?;
     print_turns(rt, &met.rows)?;
     print_compared(rt, met)
 }
 
 // Prints what was met under a pair.
 fn print_pair(rt: &impl Print, name: &str, met: &Met) -> io::Result<()> {
-    print_batches(rt, name, met)?;
+    print_batches(rt, name, met, met.rows.arities)?;
     print_parts(rt, &met.rows)?;
     print_turns(rt, &met.rows)?;
     print_compared(rt, met)
 }
 
-// Plays and prints the pairs.
-fn run_pairs<R: Print + AllocGlobal>(rt: &R) -> Result<(), Fault> {
-    let indexed = play::<Pair<Sti, Mrd>>(rt.alloc(), &BESIDE_INDEXED)?;
-    print_pair(rt, "multiple rows beside indexing", &indexed)?;
-    let colours = play::<Pair<Colour, Mrd>>(rt.alloc(), &BESIDE_COLOURS)?;
-    print_pair(rt, "multiple rows beside colours", &colours)?;
-    let rows = play::<Pair<Row, Mrd>>(rt.alloc(), &BESIDE_ROWS)?;
-    print_pair(rt, "multiple rows beside rows", &rows)?;
+// Plays and prints a kind for queries of one class alone.
+fn run_single<K: TableKind, R: Print + AllocGlobal>(
+    rt: &R,
+    name: &str,
+    rules: &Rules,
+) -> Result<(), Fault>
+    requires { 1 ≤ K.kind.most_low }
+{
+    let met = play::<K>(rt.alloc(), rules)?;
+    print_single(rt, name, &met)?;
     Ok(())
 }
 
-// Plays and prints the kinds with rows in the master array.
-fn run_rows<R: Print + AllocGlobal>(rt: &R) -> Result<(), Fault> {
-    let along = play::<Mrd>(rt.alloc(), &ALL_ALONG)?;
-    print_along(rt, "multiple rows", &along)?;
-    run_pairs(rt)
+// Plays and prints multiple row displacement alone.
+fn run_along<R: Print + AllocGlobal>(rt: &R) -> Result<(), Fault> {
+    let met = play::<Mrd>(rt.alloc(), &ALL_ALONG)?;
+    print_along(rt, "multiple rows", &met)?;
+    Ok(())
+}
+
+// Plays and prints a pair.
+fn run_pair<K: TableKind, R: Print + AllocGlobal>(
+    rt: &R,
+    name: &str,
+    rules: &Rules,
+) -> Result<(), Fault>
+    requires { 1 ≤ K.kind.most_low }
+{
+    let met = play::<K>(rt.alloc(), rules)?;
+    print_pair(rt, name, &met)?;
+    Ok(())
+}
+
+// Plays and prints the pairs.
+fn run_pairs<R: Print + AllocGlobal>(rt: &R) -> Result<(), Fault> {
+    run_pair::<Pair<Sti, Mrd>, R>(rt, "multiple rows beside indexing", &BESIDE_INDEXED)?;
+    run_pair::<Pair<Colour, Mrd>, R>(rt, "multiple rows beside colours", &BESIDE_COLOURS)?;
+    run_pair::<Pair<Row, Mrd>, R>(rt, "multiple rows beside rows", &BESIDE_ROWS)
 }
 
 // Plays and prints all.
 fn run<R: Print + AllocGlobal>(rt: &R) -> Result<(), Fault> {
     print_worked(rt)?;
-    let colours = play::<Colour>(rt.alloc(), &COLOURS)?;
-    print_met(rt, "colours", colours)?;
-    let rows = play::<Row>(rt.alloc(), &ROWS)?;
-    print_met(rt, "rows", rows)?;
-    run_rows(rt)
+    run_single::<Colour, R>(rt, "colours", &COLOURS)?;
+    run_single::<Row, R>(rt, "rows", &ROWS)?;
+    run_along(rt)?;
+    run_pairs(rt)
 }
 
 fn main(rt: HostRuntime) -> ExitCode {

@@ -1,7 +1,7 @@
 use crate::rows_met::RowsMet;
 
 /// What became of a selector that some class answers otherwise than before.
-#[derive(Clone, Copy, Debug, PartialEq, Eq)]
+#[derive(Clone, Copy)]
 pub enum Turn {
     /// It had no place, and has one.
     Came,
@@ -22,7 +22,7 @@ pub enum Turn {
 }
 
 /// What was met.
-#[derive(Clone, Copy, Debug, Default)]
+#[derive(Clone, Copy, Default)]
 pub struct Met {
     /// The batches that were committed.
     pub committed: u32,

@@ -5,7 +5,7 @@ use crate::small::SELECTOR_NUMBERS;
 use dt_definitions::Program;
 
 /// The part of a pair in which a selector has cells.
-#[derive(Clone, Copy, Debug, PartialEq, Eq)]
+#[derive(Clone, Copy)]
 pub enum Part {
     /// None.
     Neither,
@@ -16,7 +16,7 @@ pub enum Part {
 }
 
 /// The parts in which the selectors of a small program have cells, in the order of their numbers.
-#[derive(Clone, Copy, Debug)]
+#[derive(Clone, Copy)]
 pub struct Parts {
     parts: [Part; 12],
 }
@@ -42,12 +42,10 @@ impl Parts {
 
     /// Follows the program, whose rows are these.
     pub fn follow(&mut self, program: &Program, rows: &Rows, met: &mut RowsMet) {
-        let mut selector_place: usize = 0;
-        for (part, number) in self.parts.iter_mut().zip(SELECTOR_NUMBERS.iter()) {
-            let now = part_of(program, rows, selector_place, *number);
-            met.add_part(*part, now);
-            *part = now;
-            selector_place = selector_place.saturating_add(1);
+        for place in 0..12usize {
+            let now = part_of(program, rows, place, SELECTOR_NUMBERS[place]);
+            met.add_part(self.parts[place], now);
+            self.parts[place] = now;
         }
     }
 }

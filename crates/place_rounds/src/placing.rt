@@ -8,7 +8,7 @@ use dt_trials::Fault;
 use std::alloc::Global;
 
 // A selector as it is placed.
-#[derive(Clone, Copy, Debug)]
+#[derive(Clone, Copy)]
 struct Placed {
     // How many arguments it takes; 0 where it isn't live.
     arity: u8,
@@ -27,11 +27,6 @@ pub struct Placing {
     selectors: [Placed; 12],
     // Of each cell the number of the selector that uses it + 1, or 0.
     users: Vec<u16>,
-}
-
-// So many zeros.
-fn zeros(alloc: Global, count: usize) -> Result<Vec<u16>, Fault> {
-    Ok(vec![in alloc; 0; count]?)
 }
 
 // The place word of a selector in its turn, and what becomes of it: it has no place where it needs no cell; it keeps the one
@@ -103,19 +98,24 @@ fn follow_arity(program: &Program, number: u16, placed: &mut Placed, met: &mut M
     placed.arity = arity;
 }
 
+// Lays the cells of a selector at its place.
+fn lay_cells(image: &mut Image, width: u32, place: u32, cells: &Cells) {
+    for index in 0..12usize {
+        if cells[index] != 0 {
+            image.set_cell(
+                cell_number(width, place, CLASS_NUMBERS[index]),
+                cells[index],
+            );
+        }
+    }
+}
+
 // Lays the words of a selector.
 fn lay_selector(image: &mut Image, width: u32, number: u16, placed: &Placed) {
     let at = u32::from(number);
     image.set_head(4096 + at, u64::from(placed.arity));
     image.set_head(8192 + at, u64::from(placed.word));
-    for (word, class) in placed.cells.iter().zip(CLASS_NUMBERS.iter()) {
-        if *word != 0 {
-            image.set_cell(
-                cell_number(width, placed.word.saturating_sub(1), *class),
-                *word,
-            );
-        }
-    }
+    lay_cells(image, width, placed.word.saturating_sub(1), &placed.cells);
 }
 
 /// Lays the words of the classes.
@@ -128,35 +128,46 @@ pub fn lay_classes(image: &mut Image, program: &Program) {
 }
 
 impl Placing {
-    /// No selector has a place.
-    pub fn new(alloc: Global, width: u32) -> Result<Placing, Fault> {
-        let users = zeros(alloc, CELLS)?;
+    /// No selector has a place, and there is no cell before [`Placing::fill`].
+    pub fn new(alloc: Global, width: u32) -> Placing {
         let none = Placed {
             arity: 0,
             cells: [0; 12],
             word: 0,
         };
-        Ok(Placing {
+        Placing {
             width,
             selectors: [none; 12],
-            users,
-        })
+            users: Vec::new(alloc),
+        }
+    }
+
+    /// The cells come, all unused.
+    pub fn fill(&mut self, alloc: Global) -> Result<(), Fault> {
+        self.users = vec![in alloc; 0; CELLS]?;
+        Ok(())
     }
 
     /// Follows the program: selectors that some class answers otherwise than before have their turns, in ascending order.
     pub fn follow(&mut self, program: &Program, met: &mut Met) {
         let width = self.width;
         let users = &mut self.users;
-        for (placed, number) in self.selectors.iter_mut().zip(SELECTOR_NUMBERS.iter()) {
-            follow_arity(program, *number, placed, met);
-            follow_selector(users, width, program, *number, placed, met);
+        for index in 0..12usize {
+            let placed = &mut self.selectors[index];
+            follow_arity(program, SELECTOR_NUMBERS[index], placed, met);
+            follow_selector(users, width, program, SELECTOR_NUMBERS[index], placed, met);
         }
     }
 
     /// Lays the words of the selectors.
     pub fn lay(&self, image: &mut Image) {
-        for (placed, number) in self.selectors.iter().zip(SELECTOR_NUMBERS.iter()) {
-            lay_selector(image, self.width, *number, placed);
+        for index in 0..12usize {
+            lay_selector(
+                image,
+                self.width,
+                SELECTOR_NUMBERS[index],
+                &self.selectors[index],
+            );
         }
     }
 }

@@ -82,6 +82,23 @@ fn play_rounds<K: TableKind>(
     Ok(())
 }
 
+// All rounds of a program, at whose end the words that are set are counted, where they are to be.
+fn play_counted<K: TableKind>(
+    alloc: Global,
+    chance: &mut Chance,
+    arities: Arities,
+    is_counted: bool,
+    tabled: &mut Tabled<K>,
+    beside: &mut Beside,
+    met: &mut Met,
+) -> Result<(), Fault> {
+    play_rounds(alloc, chance, arities, tabled, beside, met)?;
+    if is_counted {
+        beside.hold_count(tabled.tree(), met);
+    }
+    Ok(())
+}
+
 // A program, from the empty one on, beside what its words are held against.
 fn play_beside<K: TableKind>(
     alloc: Global,
@@ -93,12 +110,9 @@ fn play_beside<K: TableKind>(
 ) -> Result<(), Fault>
     requires { 1 ≤ K.kind.most_low }
 {
+    beside.fill(alloc)?;
     let mut tabled = Tabled::<K>::new(alloc)?;
-    play_rounds(alloc, chance, arities, &mut tabled, beside, met)?;
-    if is_counted {
-        beside.hold_count(tabled.tree(), met);
-    }
-    Ok(())
+    play_counted(alloc, chance, arities, is_counted, &mut tabled, beside, met)
 }
 
 // A program, from the empty one on.

@@ -70,9 +70,9 @@ fn user_of(row: usize) -> u16 {
 // Of the first cells those that are needed, or aren't needed, by the second, too.
 fn split_cells(first: &Cells, second: &Cells, is_needed: bool) -> Cells {
     let mut cells = *first;
-    for (word, other) in cells.iter_mut().zip(second.iter()) {
-        if (*other != 0) != is_needed {
-            *word = 0;
+    for index in 0..12usize {
+        if (second[index] != 0) != is_needed {
+            cells[index] = 0;
         }
     }
     cells
@@ -188,13 +188,13 @@ fn count_turn(
     turn: RowTurn,
     met: &mut RowsMet,
 ) {
-    let is_same = turn == RowTurn::Stayed { is_above: false } && !is_other;
-    if is_same {
+    let is_same = matches!(turn, RowTurn::Stayed { is_above: false });
+    if is_same && !is_other {
         return;
     }
     met.add_turn(turn);
     met.add_length(length_of(prefix));
-    if turn == RowTurn::Came {
+    if matches!(turn, RowTurn::Came) {
         met.again = met
             .again
             .saturating_add(u32::from(number_at(&array.gone, row)));
@@ -231,12 +231,24 @@ fn take_prefix(
     count_turn(array, row, prefix, is_changed(&before, &needed), turn, met);
 }
 
+// The rows of the prefixes from one number to before another have their turns, in ascending order.
+fn take_range(
+    array: &mut Array,
+    codes: &Codes,
+    selector_place: usize,
+    range: (usize, usize),
+    met: &mut RowsMet,
+) {
+    let (begin, end) = range;
+    for prefix in begin..end {
+        take_prefix(array, codes, selector_place, prefix, met);
+    }
+}
+
 // The rows of a selector have their turns: longer prefixes first, and those of one length in ascending order.
 fn take_selector(array: &mut Array, codes: &Codes, selector_place: usize, met: &mut RowsMet) {
-    for (begin, end) in LONGEST_FIRST {
-        for prefix in begin..end {
-            take_prefix(array, codes, selector_place, prefix, met);
-        }
+    for range in &LONGEST_FIRST {
+        take_range(array, codes, selector_place, *range, met);
     }
 }
 
@@ -280,48 +292,66 @@ fn lay_selector(image: &mut Image, rows: &Rows, selector_place: usize, number: u
     }
 }
 
-// So many zeros.
-fn zeros(alloc: Global, count: usize) -> Result<Vec<u16>, Fault> {
-    Ok(vec![in alloc; 0; count]?)
+// So many zeros take the place of these numbers.
+fn set_zeros(alloc: Global, numbers: &mut Vec<u16>, count: usize) -> Result<(), Fault> {
+    *numbers = vec![in alloc; 0; count]?;
+    Ok(())
 }
 
-// The code 0 for each list of each selector.
-fn no_codes(alloc: Global) -> Result<Vec<u64>, Fault> {
-    Ok(vec![in alloc; 0; 12 * LISTS]?)
+// The code 0 for each list of each selector takes the place of these.
+fn set_no_codes(alloc: Global, codes: &mut Vec<u64>) -> Result<(), Fault> {
+    *codes = vec![in alloc; 0; 12 * LISTS]?;
+    Ok(())
 }
 
 // No query is understood.
-fn new_codes(alloc: Global) -> Result<Codes, Fault> {
-    let before = no_codes(alloc)?;
-    Ok(Codes {
-        before,
-        now: no_codes(alloc)?,
-    })
+fn fill_codes(alloc: Global, codes: &mut Codes) -> Result<(), Fault> {
+    set_no_codes(alloc, &mut codes.before)?;
+    set_no_codes(alloc, &mut codes.now)
 }
 
 // No row has a displacement.
-fn new_array(alloc: Global) -> Result<Array, Fault> {
-    let words = zeros(alloc, 12 * PREFIXES)?;
-    let users = zeros(alloc, CELLS)?;
-    let owners = zeros(alloc, CELLS)?;
-    Ok(Array {
-        words,
-        users,
-        owners,
-        gone: zeros(alloc, 12 * PREFIXES)?,
-    })
+fn fill_array(alloc: Global, array: &mut Array) -> Result<(), Fault> {
+    set_zeros(alloc, &mut array.words, 12 * PREFIXES)?;
+    set_zeros(alloc, &mut array.users, CELLS)?;
+    set_zeros(alloc, &mut array.owners, CELLS)?;
+    set_zeros(alloc, &mut array.gone, 12 * PREFIXES)
+}
+
+// No code at all.
+fn no_codes(alloc: Global) -> Codes {
+    Codes {
+        before: Vec::new(alloc),
+        now: Vec::new(alloc),
+    }
+}
+
+// No row and no cell at all.
+fn no_array(alloc: Global) -> Array {
+    Array {
+        words: Vec::new(alloc),
+        users: Vec::new(alloc),
+        owners: Vec::new(alloc),
+        gone: Vec::new(alloc),
+    }
 }
 
 impl Rows {
-    /// No selector has rows; those that take so many arguments or more may get some.
-    pub fn new(alloc: Global, least: u8) -> Result<Rows, Fault> {
-        let codes = new_codes(alloc)?;
-        Ok(Rows {
+    /// No selector has rows, and there is nowhere to place any before [`Rows::fill`]; those that take so many arguments
+    /// or more may get some then.
+    pub fn new(alloc: Global, least: u8) -> Rows {
+        Rows {
             least,
             arities: [0; 12],
-            codes,
-            array: new_array(alloc)?,
-        })
+            codes: no_codes(alloc),
+            array: no_array(alloc),
+        }
+    }
+
+    /// The master array and the codes come, all unused.
+    pub fn fill(&mut self, alloc: Global) -> Result<(), Fault> {
+        fill_codes(alloc, &mut self.codes)?;
+        fill_array(alloc, &mut self.array)
     }
 
     /// Whether a selector has rows.
@@ -332,10 +362,10 @@ impl Rows {
     // Follows how many arguments the selectors take.
     fn follow_arities(&mut self, program: &Program, met: &mut RowsMet) {
         let least = self.least;
-        for (arity, number) in self.arities.iter_mut().zip(SELECTOR_NUMBERS.iter()) {
-            let now = arity_of(program, *number);
-            met.add_arity(least, *arity, now);
-            *arity = now;
+        for place in 0..12usize {
+            let now = arity_of(program, SELECTOR_NUMBERS[place]);
+            met.add_arity(least, self.arities[place], now);
+            self.arities[place] = now;
         }
     }
 
@@ -355,10 +385,14 @@ impl Rows {
 
     /// Lays the words of the selectors' rows, and how many arguments all selectors take.
     pub fn lay(&self, image: &mut Image) {
-        let mut selector_place: usize = 0;
-        for (arity, number) in self.arities.iter().zip(SELECTOR_NUMBERS.iter()) {
-            lay_selector(image, self, selector_place, *number, *arity);
-            selector_place = selector_place.saturating_add(1);
+        for place in 0..12usize {
+            lay_selector(
+                image,
+                self,
+                place,
+                SELECTOR_NUMBERS[place],
+                self.arities[place],
+            );
         }
     }
 }

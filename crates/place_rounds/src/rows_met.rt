@@ -1,7 +1,7 @@
 use crate::parts::Part;
 
 /// What became of a row that some query leads otherwise than before.
-#[derive(Clone, Copy, Debug, PartialEq, Eq)]
+#[derive(Clone, Copy)]
 pub enum RowTurn {
     /// It had no displacement, and has one.
     Came,
@@ -20,7 +20,7 @@ pub enum RowTurn {
 }
 
 /// What was met of rows and of selectors.
-#[derive(Clone, Copy, Debug, Default)]
+#[derive(Clone, Copy, Default)]
 pub struct RowsMet {
     /// The rows that came.
     pub came: u32,

@@ -2,7 +2,7 @@ use crate::arities::Arities;
 use crate::image::FIRST_BLOCKS;
 
 /// Where the selectors of one argument are placed.
-#[derive(Clone, Copy, Debug, PartialEq, Eq)]
+#[derive(Clone, Copy)]
 pub enum Singles {
     /// Their cells are rows in the master array, as those of the others.
     Along,
@@ -14,7 +14,7 @@ pub enum Singles {
 }
 
 /// By which rules the words of a kind are placed, and how many programs are played under it.
-#[derive(Clone, Copy, Debug)]
+#[derive(Clone, Copy)]
 pub struct Rules {
     /// Where the selectors of one argument are placed.
     pub singles: Singles,

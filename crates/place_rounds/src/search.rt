@@ -17,9 +17,9 @@ fn user_of(users: &[u16], width: u32, place: u32, class: u16) -> u16 {
 
 /// Whether each cell that is needed is unused at this place, or used by this one.
 pub fn fits(users: &[u16], width: u32, user: u16, needed: &Cells, place: u32) -> bool {
-    for (word, class) in needed.iter().zip(CLASS_NUMBERS.iter()) {
-        let other = user_of(users, width, place, *class);
-        if *word != 0 && other != 0 && other != user {
+    for index in 0..12usize {
+        let other = user_of(users, width, place, CLASS_NUMBERS[index]);
+        if needed[index] != 0 && other != 0 && other != user {
             return false;
         }
     }
@@ -28,8 +28,8 @@ pub fn fits(users: &[u16], width: u32, user: u16, needed: &Cells, place: u32) ->
 
 /// Whether one of the cells that are needed is used by this one at this place.
 pub fn meets_own(users: &[u16], width: u32, user: u16, needed: &Cells, place: u32) -> bool {
-    for (word, class) in needed.iter().zip(CLASS_NUMBERS.iter()) {
-        if *word != 0 && user_of(users, width, place, *class) == user {
+    for index in 0..12usize {
+        if needed[index] != 0 && user_of(users, width, place, CLASS_NUMBERS[index]) == user {
             return true;
         }
     }
@@ -46,13 +46,18 @@ pub fn lowest_place(users: &[u16], width: u32, user: u16, needed: &Cells) -> u32
     CELLS as u32
 }
 
+// The cell is used by this one from now on.
+fn use_cell(users: &mut Vec<u16>, cell: usize, user: u16) {
+    if let Some(other) = users.get_mut(cell) {
+        *other = user;
+    }
+}
+
 /// The cells that are needed at this place are used by this one from now on; 0 is nobody.
 pub fn use_cells(users: &mut Vec<u16>, width: u32, user: u16, needed: &Cells, place: u32) {
-    for (word, class) in needed.iter().zip(CLASS_NUMBERS.iter()) {
-        if *word != 0 {
-            if let Some(other) = users.get_mut(cell_number(width, place, *class)) {
-                *other = user;
-            }
+    for index in 0..12usize {
+        if needed[index] != 0 {
+            use_cell(users, cell_number(width, place, CLASS_NUMBERS[index]), user);
         }
     }
 }

@@ -11,17 +11,19 @@ type Under = [[bool; 12]; 4];
 
 // Adds the classes at or below the one that a definition names.
 fn add_below(program: &Program, named: ClassNo, under: &mut [bool; 12]) {
-    for (holds, number) in under.iter_mut().zip(CLASS_NUMBERS.iter()) {
-        if program.graph().is_below(class(*number), named) {
-            *holds = true;
+    for index in 0..12usize {
+        if program.graph().is_below(class(CLASS_NUMBERS[index]), named) {
+            under[index] = true;
         }
     }
 }
 
 // Adds the classes for which a definition is.
 fn add_definition(program: &Program, classes: &Tuple, under: &mut Under) {
-    for (at_place, named) in under.iter_mut().zip(classes.classes().iter()) {
-        add_below(program, *named, at_place);
+    for index in 0..4usize {
+        if let Some(named) = classes.classes().get(index) {
+            add_below(program, *named, &mut under[index]);
+        }
     }
 }
 

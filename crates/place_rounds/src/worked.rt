@@ -1,7 +1,7 @@
 ghost use Rattle.std.specs.Prelude.{◌≡◌, ◌≤◌};
 
 use crate::image::{ADDRESSES, CELLS, CELLS_BEGIN, MASTER_BEGIN, count_words};
-use crate::made::{Known, batch_of};
+use crate::made::{batch_of, query_of};
 use dt_cells::{Pair, TableKind};
 use dt_colour::Colour;
 use dt_mrd::Mrd;
@@ -11,116 +11,30 @@ use dt_scratch::{Query, Reply};
 use dt_sti::Sti;
 use dt_tables::Tabled;
 use dt_trials::Fault;
+use std::alloc::Global;
 use std::io;
 
 // Two classes, and two selectors, each defined at a class of its own.
-const APART: [Known; 6] = [
-    Known::Class { number: 0 },
-    Known::Class { number: 1 },
-    Known::Selector { number: 0 },
-    Known::Selector { number: 1 },
-    Known::Define {
-        selector: 0,
-        class: 0,
-        body: 0,
-    },
-    Known::Define {
-        selector: 1,
-        class: 1,
-        body: 1,
-    },
-];
+const APART: &str = "class 0; class 1; selector 0 1; selector 1 1; define 0 0 0; define 1 1 1";
 
 // A class below both.
-const BELOW_BOTH: [Known; 1] = [Known::Below {
-    number: 2,
-    first: 0,
-    second: 1,
-}];
+const BELOW_BOTH: &str = "class 2 0 1";
 
 // Two classes, and two selectors, both defined at the first class.
-const TOGETHER: [Known; 6] = [
-    Known::Class { number: 0 },
-    Known::Class { number: 1 },
-    Known::Selector { number: 0 },
-    Known::Selector { number: 1 },
-    Known::Define {
-        selector: 0,
-        class: 0,
-        body: 0,
-    },
-    Known::Define {
-        selector: 1,
-        class: 0,
-        body: 1,
-    },
-];
+const TOGETHER: &str = "class 0; class 1; selector 0 1; selector 1 1; define 0 0 0; define 1 1 0";
 
 // The first selector is defined at the second class, too.
-const AT_THE_SECOND: [Known; 1] = [Known::Define {
-    selector: 0,
-    class: 1,
-    body: 2,
-}];
+const AT_THE_SECOND: &str = "define 0 2 1";
 
 // The second selector of these is another from now on: it takes two arguments.
-const FORTH: [Known; 4] = [
-    Known::Undefine {
-        selector: 1,
-        class: 0,
-    },
-    Known::Forget { number: 1 },
-    Known::SelectorOfTwo { number: 1 },
-    Known::DefineAtTwo {
-        selector: 1,
-        classes: [0, 1],
-        body: 2,
-    },
-];
+const FORTH: &str = "undefine 1 0; forget 1; selector 1 2; define 1 2 0 1";
 
 // It takes one argument again, and the first selector has no definition any more.
-const BACK: [Known; 5] = [
-    Known::Undefine {
-        selector: 0,
-        class: 0,
-    },
-    Known::UndefineAtTwo {
-        selector: 1,
-        classes: [0, 1],
-    },
-    Known::Forget { number: 1 },
-    Known::Selector { number: 1 },
-    Known::Define {
-        selector: 1,
-        class: 0,
-        body: 1,
-    },
-];
+const BACK: &str = "undefine 0 0; undefine 1 0 1; forget 1; selector 1 1; define 1 1 0";
 
 // Two classes below a third, and a selector of two arguments that is defined at the third and the second of them, and the
 // other way round.
-const COLLIDE: [Known; 6] = [
-    Known::Class { number: 0 },
-    Known::Under {
-        number: 1,
-        parent: 0,
-    },
-    Known::Under {
-        number: 2,
-        parent: 0,
-    },
-    Known::SelectorOfTwo { number: 0 },
-    Known::DefineAtTwo {
-        selector: 0,
-        classes: [0, 2],
-        body: 0,
-    },
-    Known::DefineAtTwo {
-        selector: 0,
-        classes: [2, 0],
-        body: 1,
-    },
-];
+const COLLIDE: &str = "class 0; class 1 0; class 2 0; selector 0 2; define 0 0 0 2; define 0 1 2 0";
 
 // Prints the words that are set of so many addresses from this one on.
 fn print_range(rt: &impl Print, tree: &Tree, first: u32, end: u32) -> io::Result<()> {
@@ -142,31 +56,55 @@ fn print_words(rt: &impl Print, name: &str, tree: &Tree) -> io::Result<()> {
     print_range(rt, tree, MASTER_BEGIN, MASTER_BEGIN + CELLS as u32)
 }
 
+// Prints the words after a batch, and whether it wasn't committed.
+fn print_after(rt: &impl Print, name: &str, tree: &Tree, is_committed: bool) -> io::Result<()> {
+    if !is_committed {
+        println!(rt; "{name} | not committed")?;
+    }
+    print_words(rt, name, tree)
+}
+
+// Whether the batch of these edits is committed.
+fn is_committed<K: TableKind>(
+    alloc: Global,
+    tabled: &mut Tabled<K>,
+    edits: &str,
+) -> Result<bool, Fault> {
+    let batch = batch_of(alloc, edits)?;
+    Ok(tabled.commit(&batch).is_ok())
+}
+
 // Commits the batch of these edits, and prints the words after it.
 fn show<K: TableKind, R: Print + AllocGlobal>(
     rt: &R,
     tabled: &mut Tabled<K>,
     name: &str,
-    edits: &[Known],
+    edits: &str,
 ) -> Result<(), Fault> {
-    let batch = batch_of(rt.alloc(), edits)?;
-    if tabled.commit(&batch).is_err() {
-        println!(rt; "{name} | not committed")?;
-    }
-    print_words(rt, name, tabled.tree())?;
+    let is_committed = is_committed(rt.alloc(), tabled, edits)?;
+    print_after(rt, name, tabled.tree(), is_committed)?;
     Ok(())
 }
 
-// Prints the replies to these queries of a selector and a class.
+// Prints the reply to a query.
+fn print_reply<K: TableKind>(
+    rt: &impl Print,
+    tabled: &mut Tabled<K>,
+    query: &Query,
+) -> io::Result<()> {
+    let reply: Reply = tabled.reply(query);
+    println!(rt; "  {query} | {reply}")
+}
+
+// Prints the replies to these queries.
 fn print_replies<K: TableKind>(
     rt: &impl Print,
     tabled: &mut Tabled<K>,
-    queries: &[(u16, u16)],
+    queries: &str,
 ) -> io::Result<()> {
-    for (selector, class) in queries {
-        if let Some(query) = Query::new(*selector, &[*class]) {
-            let reply: Reply = tabled.reply(&query);
-            println!(rt; "  {query} | {reply}")?;
+    for digits in queries.split("; ") {
+        if let Some(query) = query_of(digits) {
+            print_reply(rt, tabled, &query)?;
         }
     }
     Ok(())
@@ -176,9 +114,9 @@ fn print_replies<K: TableKind>(
 fn show_both<K: TableKind, R: Print + AllocGlobal>(
     rt: &R,
     tabled: &mut Tabled<K>,
-    first: (&str, &[Known]),
-    second: (&str, &[Known]),
-    queries: &[(u16, u16)],
+    first: (&str, &str),
+    second: (&str, &str),
+    queries: &str,
 ) -> Result<(), Fault> {
     show(rt, tabled, first.0, first.1)?;
     show(rt, tabled, second.0, second.1)?;
@@ -192,9 +130,9 @@ fn print_colours<R: Print + AllocGlobal>(rt: &R) -> Result<(), Fault> {
     show_both(
         rt,
         &mut tabled,
-        ("colours, each class understands one selector", &APART),
-        ("colours, a class below understands both", &BELOW_BOTH),
-        &[(0, 2), (1, 2), (0, 1)],
+        ("colours, each class understands one selector", APART),
+        ("colours, a class below understands both", BELOW_BOTH),
+        "0 2; 1 2; 0 1",
     )
 }
 
@@ -204,24 +142,20 @@ fn print_rows<R: Print + AllocGlobal>(rt: &R) -> Result<(), Fault> {
     show_both(
         rt,
         &mut tabled,
-        ("rows, a class understands both selectors", &TOGETHER),
-        ("rows, another understands the first", &AT_THE_SECOND),
-        &[(1, 1), (0, 0), (0, 1)],
+        ("rows, a class understands both selectors", TOGETHER),
+        ("rows, another understands the first", AT_THE_SECOND),
+        "1 1; 0 0; 0 1",
     )
 }
 
-// Prints the replies to these queries of the first selector and two classes.
-fn print_replies_at_two<K: TableKind>(
-    rt: &impl Print,
+// Commits the rows of a selector of two arguments.
+fn show_master<K: TableKind, R: Print + AllocGlobal>(
+    rt: &R,
     tabled: &mut Tabled<K>,
-    queries: &[[u16; 2]],
-) -> io::Result<()> {
-    for classes in queries {
-        if let Some(query) = Query::new(0, classes) {
-            let reply: Reply = tabled.reply(&query);
-            println!(rt; "  {query} | {reply}")?;
-        }
-    }
+    name: &str,
+) -> Result<(), Fault> {
+    show(rt, tabled, name, COLLIDE)?;
+    print_replies(rt, tabled, "0 0 2; 0 2 1; 0 2 2; 0 1 1")?;
     Ok(())
 }
 
@@ -230,28 +164,34 @@ fn print_master<K: TableKind, R: Print + AllocGlobal>(rt: &R, name: &str) -> Res
     requires { 1 ≤ K.kind.most_low }
 {
     let mut tabled = Tabled::<K>::new(rt.alloc())?;
-    show(rt, &mut tabled, name, &COLLIDE)?;
-    print_replies_at_two(rt, &mut tabled, &[[0, 2], [2, 1], [2, 2], [1, 1]])?;
-    Ok(())
+    show_master(rt, &mut tabled, name)
 }
 
 // A selector that goes from the first part of a pair to the second, and back: it is given the lowest colour then, though
 // nothing is in the way at the one that it had.
-fn print_parts<R: Print + AllocGlobal>(rt: &R) -> Result<(), Fault> {
-    let mut tabled = Tabled::<Pair<Colour, Mrd>>::new(rt.alloc())?;
+fn show_parts<K: TableKind, R: Print + AllocGlobal>(
+    rt: &R,
+    tabled: &mut Tabled<K>,
+) -> Result<(), Fault> {
     show(
         rt,
-        &mut tabled,
+        tabled,
         "multiple rows beside colours, a class understands both selectors",
-        &TOGETHER,
+        TOGETHER,
     )?;
     show_both(
         rt,
-        &mut tabled,
-        ("multiple rows beside colours, the second takes two", &FORTH),
-        ("multiple rows beside colours, it takes one again", &BACK),
-        &[(0, 0), (1, 0), (1, 1)],
+        tabled,
+        ("multiple rows beside colours, the second takes two", FORTH),
+        ("multiple rows beside colours, it takes one again", BACK),
+        "0 0; 1 0; 1 1",
     )
+}
+
+// The same, from the empty program on.
+fn print_parts<R: Print + AllocGlobal>(rt: &R) -> Result<(), Fault> {
+    let mut tabled = Tabled::<Pair<Colour, Mrd>>::new(rt.alloc())?;
+    show_parts(rt, &mut tabled)
 }
 
 /// Prints all words of four small programs, of three of them before and after a selector moves, and a few replies.
