@@ -1,8 +1,8 @@
-ghost use Rattle.std.specs.Prelude.{◌≡◌, IfOk, IfErr, reverse};
+ghost use Rattle.std.specs.Prelude.{◌≡◌, Ok, IfOk, IfErr, reverse};
 ghost use Rattle.dt_definitions.specs.Program as shown;
 ghost use Rattle.dt_definitions.specs.Program.{empty_program};
 ghost use Rattle.dt_definitions.specs.SecondProgram.{tried_or, IsSecondOf};
-ghost use Rattle.dt_definitions.specs.Step.{AppliesBatch};
+ghost use Rattle.dt_definitions.specs.Step.{step_batch, AppliesBatch};
 ghost use Rattle.dt_definitions.specs.TwoPrograms.{IsSettledAt};
 ghost use Rattle.dt_definitions.specs.Undo.{undoing, LeadsBack};
 
@@ -33,6 +33,13 @@ enum Second {
     Gone,
 }
 
+// The second program is this one. The old one is dropped here, so that no other function's proof takes its drop apart.
+fn put(second: &mut Second, new: Second)
+    ensures { second.new ≡ new }
+{
+    *second = new;
+}
+
 // What becomes of the second program where the batch that is tried on it is refused: it is behind by no edit. Where no room
 // was found to undo the batch, it is gone.
 fn undone(alloc: Global, mut program: Program, batch: Batch, kept: Vec<Edit>) -> Second
@@ -61,19 +68,21 @@ fn try_on(
 {
     match program.apply_kept(&batch) {
         Ok(kept) => {
-            *second = Second::Tried {
+            let tried = Second::Tried {
                 program,
                 batch,
                 kept,
             };
+            put(second, tried);
             Ok(())
         }
         Err(fault) => {
             program.give_back(&batch);
-            *second = Second::Behind {
+            let behind = Second::Behind {
                 program,
                 batch: Batch::new(alloc),
             };
+            put(second, behind);
             Err(fault)
         }
     }
@@ -130,6 +139,26 @@ impl TwoPrograms {
         }
     }
 
+    // Makes the batch that it is behind by on a program that was taken out. [`NoMemory`] where none was found; then it is
+    // the second program.
+    fn bring_up(&mut self, mut program: Program, batch: Batch) -> Result<Program, NoMemory>
+        requires settled { IsSettledAt self.old.stands self.old }
+        requires behind { step_batch program batch ≡ Ok self.old.stands }
+        ensures second { IfOk result (λ program. program ≡ self.old.stands) }
+        ensures stays { IsSettledAt self.old.stands self.new }
+    {
+        match program.apply_batch(&batch) {
+            Ok(()) => {
+                self.stands.give_back(&batch);
+                Ok(program)
+            }
+            Err(_) => {
+                put(&mut self.second, Second::Behind { program, batch });
+                Err(NoMemory)
+            }
+        }
+    }
+
     // Takes the second program out, equal to the one that stands. [`NoMemory`] where none was found; then both are as
     // they were.
     fn take_second(&mut self) -> Result<Program, NoMemory>
@@ -138,16 +167,7 @@ impl TwoPrograms {
         ensures stays { IsSettledAt self.old.stands self.new }
     {
         match mem::replace(&mut self.second, Second::Gone) {
-            Second::Behind { mut program, batch } => match program.apply_batch(&batch) {
-                Ok(()) => {
-                    self.stands.give_back(&batch);
-                    Ok(program)
-                }
-                Err(_) => {
-                    self.second = Second::Behind { program, batch };
-                    Err(NoMemory)
-                }
-            },
+            Second::Behind { program, batch } => self.bring_up(program, batch),
             Second::Tried { program, .. } => Ok(program),
             Second::Gone => self.stands.copy(),
         }
@@ -179,9 +199,9 @@ impl TwoPrograms {
         match mem::replace(&mut self.second, Second::Gone) {
             Second::Tried { program, batch, .. } => {
                 let program = mem::replace(&mut self.stands, program);
-                self.second = Second::Behind { program, batch };
+                put(&mut self.second, Second::Behind { program, batch });
             }
-            second => self.second = second,
+            second => put(&mut self.second, second),
         }
     }
 
@@ -189,7 +209,7 @@ impl TwoPrograms {
     pub fn refuse(&mut self)
         ensures { IsSettledAt self.old.stands self.new }
     {
-        self.second = match mem::replace(&mut self.second, Second::Gone) {
+        let second = match mem::replace(&mut self.second, Second::Gone) {
             Second::Tried {
                 program,
                 batch,
@@ -197,5 +217,6 @@ impl TwoPrograms {
             } => undone(self.alloc, program, batch, kept),
             second => second,
         };
+        put(&mut self.second, second);
     }
 }
