@@ -37,7 +37,7 @@ enum Second {
 fn put(second: &mut Second, new: Second)
     ensures { second.new ≡ new }
 {
-    *second = new;
+    drop(mem::replace(second, new));
 }
 
 // What becomes of the second program where the batch that is tried on it is refused: it is behind by no edit. Where no room

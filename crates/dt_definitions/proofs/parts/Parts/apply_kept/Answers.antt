@@ -1,4 +1,5 @@
-use Rattle.std.proofs.Common.{◌≡◌, ◌+◌, ◌∷◌, reverse, take, sym, ap, subst, ◌∙◌, arith}
+use Rattle.std.proofs.Common.{◌≡◌, ◌+◌, ◌∷◌, reverse, take, not, sym, ap, subst, ◌∙◌, arith}
+use Rattle.std.proofs.lemmas.Bool.{false≢true}
 use Rattle.dt_definitions.specs.Parts.{program_of}
 use Rattle.dt_definitions.specs.Step.{step_batch}
 use Rattle.dt_definitions.specs.Undo.{undoing, LeadsBack, HasRooms, inverse}
@@ -47,4 +48,4 @@ unreachable-requires c =
     let room = subst (λ k. HasRooms c.loop-index.self.definitions.rooms old (undoing (reverse (take c.loop-index.index c.as_slice-edits.result.now)) (reverse k))) kept c.loop-index.invariant.rooms in
     let more = rooms_more log old c.loop-index.self.definitions.rooms rooms c.in-Err.ensures.room_stays room in
     let good = c.undo.ensures.succeeds first (subst (λ q. LeadsBack q log first) (sym same) back) (subst (λ q. HasRooms rooms q log) (sym same) more) in
-    grind (arith, good)
+    false≢true (sym (c.is_err.ensures.negation ∙ ap not c.if-is_err.true) ∙ good)
