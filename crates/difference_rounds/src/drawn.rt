@@ -7,6 +7,26 @@ use std::alloc::Global;
 // How many bodies there are.
 const BODIES: u16 = 5;
 
+// Whether the class is to come below this one.
+fn is_drawn(chance: &mut Chance, program: &Program, class: ClassNo, parent: ClassNo) -> bool {
+    parent != class && program.is_live(parent) && chance.below(3) == 0
+}
+
+// Lists some of the other classes that are live.
+fn list_some(
+    chance: &mut Chance,
+    program: &Program,
+    class: ClassNo,
+    listed: &mut ArrayVec<ClassNo, 8>,
+) {
+    for number in &CLASS_NUMBERS {
+        let parent = ClassNo::new(*number).unwrap_or_default();
+        if is_drawn(chance, program, class, parent) {
+            let _ = listed.try_push(parent);
+        }
+    }
+}
+
 // The class comes below some of the others that are live.
 fn draw_below(
     alloc: Global,
@@ -15,12 +35,7 @@ fn draw_below(
     class: ClassNo,
 ) -> Result<Edit, Fault> {
     let mut listed: ArrayVec<ClassNo, 8> = ArrayVec::new();
-    for number in CLASS_NUMBERS {
-        let parent = ClassNo::new(number).unwrap_or_default();
-        if parent != class && program.is_live(parent) && chance.below(3) == 0 {
-            let _ = listed.try_push(parent);
-        }
-    }
+    list_some(chance, program, class, &mut listed);
     let parents = Parents::new(alloc, listed.as_slice())?;
     Ok(Edit::AddClass { class, parents })
 }
@@ -82,11 +97,15 @@ fn draw_undefine(chance: &mut Chance, program: &Program) -> Option<Edit> {
     Some(Edit::Undefine { selector, classes })
 }
 
-// An edit of each kind, definitions and links more often.
-fn draw_edit(alloc: Global, chance: &mut Chance, program: &Program) -> Result<Option<Edit>, Fault> {
-    let (class, selector) = (draw_class(chance), draw_selector(chance));
-    Ok(match chance.below(16) {
-        0 => Some(draw_below(alloc, chance, program, class)?),
+// An edit of this kind that brings no class, definitions and links more often.
+fn draw_other(
+    chance: &mut Chance,
+    program: &Program,
+    class: ClassNo,
+    selector: SelNo,
+    kind: u16,
+) -> Option<Edit> {
+    match kind {
         1 => Some(Edit::DropClass { class }),
         2..=5 => Some(draw_link(chance)),
         6 | 7 => Some(draw_unlink(chance, program)),
@@ -94,24 +113,68 @@ fn draw_edit(alloc: Global, chance: &mut Chance, program: &Program) -> Result<Op
         9 => Some(Edit::DropSelector { selector }),
         10..=13 => draw_define(chance, program),
         _ => draw_undefine(chance, program),
-    })
+    }
 }
 
-// Draws an edit, and puts it last where the program, to which it is applied, accepts it; one in sixteen of those that it
-// refuses comes too.
+// Whether the program, to which the edit is applied, accepts it; one in sixteen of those that it refuses is wanted, too.
+fn is_wanted(chance: &mut Chance, trial: &mut Program, edit: &Edit) -> Result<bool, Fault> {
+    let is_accepted = is_applied(trial, edit)?;
+    Ok(is_accepted || chance.below(16) == 0)
+}
+
+// Puts the edit last where it is wanted.
+fn push_edit(
+    chance: &mut Chance,
+    trial: &mut Program,
+    batch: &mut Batch,
+    edit: Edit,
+) -> Result<(), Fault> {
+    match is_wanted(chance, trial, &edit) {
+        Ok(true) => put(batch, edit),
+        Ok(false) => Ok(()),
+        Err(fault) => Err(fault),
+    }
+}
+
+// Draws that a class comes.
+fn push_below(
+    alloc: Global,
+    chance: &mut Chance,
+    trial: &mut Program,
+    batch: &mut Batch,
+    class: ClassNo,
+) -> Result<(), Fault> {
+    let edit = draw_below(alloc, chance, trial, class)?;
+    push_edit(chance, trial, batch, edit)
+}
+
+// Draws an edit of this kind that brings no class.
+fn push_other(
+    chance: &mut Chance,
+    trial: &mut Program,
+    batch: &mut Batch,
+    numbers: (ClassNo, SelNo),
+    kind: u16,
+) -> Result<(), Fault> {
+    let (class, selector) = numbers;
+    match draw_other(chance, trial, class, selector, kind) {
+        Some(edit) => push_edit(chance, trial, batch, edit),
+        None => Ok(()),
+    }
+}
+
+// Draws an edit of any kind.
 fn push_drawn(
     alloc: Global,
     chance: &mut Chance,
     trial: &mut Program,
     batch: &mut Batch,
 ) -> Result<(), Fault> {
-    let Some(edit) = draw_edit(alloc, chance, trial)? else {
-        return Ok(());
-    };
-    if is_applied(trial, &edit)? || chance.below(16) == 0 {
-        return put(batch, edit);
+    let (class, selector) = (draw_class(chance), draw_selector(chance));
+    match chance.below(16) {
+        0 => push_below(alloc, chance, trial, batch, class),
+        kind => push_other(chance, trial, batch, (class, selector), kind),
     }
-    Ok(())
 }
 
 // The class comes last.
@@ -152,13 +215,28 @@ fn push_selectors(chance: &mut Chance, batch: &mut Batch) -> Result<(), Fault> {
     Ok(())
 }
 
+// Puts all classes and all selectors last.
+fn fill_first(
+    alloc: Global,
+    chance: &mut Chance,
+    trial: &mut Program,
+    batch: &mut Batch,
+) -> Result<(), Fault> {
+    push_classes(alloc, chance, trial, batch)?;
+    push_selectors(chance, batch)
+}
+
+// The first batch, which is tried on the empty program.
+fn first_on(alloc: Global, chance: &mut Chance, trial: &mut Program) -> Result<Batch, Fault> {
+    let mut batch = Batch::new(alloc);
+    fill_first(alloc, chance, trial, &mut batch)?;
+    Ok(batch)
+}
+
 /// The first batch of a program: all classes and all selectors.
 pub fn first_batch(alloc: Global, chance: &mut Chance) -> Result<Batch, Fault> {
     let mut trial = Program::new(alloc)?;
-    let mut batch = Batch::new(alloc);
-    push_classes(alloc, chance, &mut trial, &mut batch)?;
-    push_selectors(chance, &mut batch)?;
-    Ok(batch)
+    first_on(alloc, chance, &mut trial)
 }
 
 // Draws up to six edits.
@@ -174,10 +252,15 @@ fn fill(
     Ok(())
 }
 
+// A batch by chance, which is tried on this program.
+fn draw_on(alloc: Global, chance: &mut Chance, trial: &mut Program) -> Result<Batch, Fault> {
+    let mut batch = Batch::new(alloc);
+    fill(alloc, chance, trial, &mut batch)?;
+    Ok(batch)
+}
+
 /// A batch of at most six edits by chance, most of which the program accepts.
 pub fn draw_batch(alloc: Global, chance: &mut Chance, program: &Program) -> Result<Batch, Fault> {
     let mut trial = program.copy()?;
-    let mut batch = Batch::new(alloc);
-    fill(alloc, chance, &mut trial, &mut batch)?;
-    Ok(batch)
+    draw_on(alloc, chance, &mut trial)
 }

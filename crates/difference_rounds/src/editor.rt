@@ -11,7 +11,7 @@ use std::marker::Model;
 use std::sync::ledger::Ledger;
 
 /// What became of a batch.
-#[derive(Debug, Drop)]
+#[derive(Drop)]
 pub enum Told {
     /// What it changes, and in how many steps that was found.
     Changes { changes: Vec<Change>, steps: u64 },

@@ -1,5 +1,5 @@
 use crate::editor::{Editor, Told};
-use crate::scenes::{Base, Known, base_of, batch_of};
+use crate::scenes::{Base, base_of, batch_of};
 use dt_definitions::Batch;
 use dt_graph::Steps;
 use dt_propagate::ChangeFault;
@@ -59,10 +59,10 @@ fn try_known<L: Ledger, R: Print + AllocGlobal>(
     rt: &R,
     editor: &mut Editor,
     name: &str,
-    known: Known,
+    words: &str,
     steps: &mut Steps<L>,
 ) -> Result<(), Fault> {
-    let batch = batch_of(rt.alloc(), known)?;
+    let batch = batch_of(rt.alloc(), words)?;
     show(rt, editor, name, &batch, steps)?;
     editor.refuse();
     Ok(())
@@ -82,15 +82,17 @@ fn begin<L: Ledger, R: Print + AllocGlobal>(
     Ok(())
 }
 
-// Tries batches of one edit in turn.
+// Tries batches of one edit in turn, each on a line of its own behind its name.
 fn try_all<L: Ledger, R: Print + AllocGlobal>(
     rt: &R,
     editor: &mut Editor,
-    edits: &[(&str, Known)],
+    edits: &str,
     steps: &mut Steps<L>,
 ) -> Result<(), Fault> {
-    for (name, known) in edits {
-        try_known(rt, editor, name, *known, steps)?;
+    for line in edits.split('\n') {
+        if let Some((name, words)) = line.split_once(" : ") {
+            try_known(rt, editor, name, words, steps)?;
+        }
     }
     Ok(())
 }
@@ -100,7 +102,7 @@ fn play<L: Ledger, R: Print + AllocGlobal>(
     rt: &R,
     name: &str,
     base: Base,
-    edits: &[(&str, Known)],
+    edits: &str,
     steps: &mut Steps<L>,
 ) -> Result<(), Fault> {
     let mut editor = Editor::new(rt.alloc())?;
@@ -109,54 +111,18 @@ fn play<L: Ledger, R: Print + AllocGlobal>(
 }
 
 // What is tried on a class with two below it and one below both, and a selector that the two define.
-const ON_THE_DIAMOND: [(&str, Known); 3] = [
-    (
-        "define at its end",
-        Known::Define {
-            selector: 0,
-            class: 3,
-            body: 2,
-        },
-    ),
-    ("unlink a side", Known::Unlink { low: 3, high: 1 }),
-    ("link the sides", Known::Link { low: 1, high: 2 }),
-];
+const ON_THE_DIAMOND: &str = "define at its end : define 0 3 2
+unlink a side : unlink 3 1
+link the sides : link 1 2";
 
 // What is tried on 200 classes of which all others are below the first, with 50 selectors that it defines.
-const ON_THE_STAR: [(&str, Known); 4] = [
-    (
-        "define at a leaf",
-        Known::Define {
-            selector: 0,
-            class: 7,
-            body: 1,
-        },
-    ),
-    ("link two leaves", Known::Link { low: 7, high: 8 }),
-    (
-        "a class below a leaf",
-        Known::Class {
-            number: 200,
-            parent: 7,
-        },
-    ),
-    (
-        "undefine above all",
-        Known::Undefine {
-            selector: 0,
-            class: 0,
-        },
-    ),
-];
+const ON_THE_STAR: &str = "define at a leaf : define 0 7 1
+link two leaves : link 7 8
+a class below a leaf : class 200 7
+undefine above all : undefine 0 0";
 
 // What is tried where there are as many cells as there may be, or as many rows.
-const ONE_MORE: [(&str, Known); 1] = [(
-    "one more",
-    Known::Defined {
-        selector: 3000,
-        class: 5,
-    },
-)];
+const ONE_MORE: &str = "one more : defined 3000 5";
 
 // Prints the programs at the limits, and past them.
 fn print_limits<L: Ledger, R: Print + AllocGlobal>(
@@ -164,10 +130,10 @@ fn print_limits<L: Ledger, R: Print + AllocGlobal>(
     steps: &mut Steps<L>,
 ) -> Result<(), Fault> {
     for classes in [128, 161, 162] {
-        play(rt, "three arguments", Base::Cube { classes }, &[], steps)?;
+        play(rt, "three arguments", Base::Cube { classes }, "", steps)?;
     }
-    play(rt, "all cells", Base::Cells, &ONE_MORE, steps)?;
-    play(rt, "all rows", Base::Rows, &ONE_MORE, steps)
+    play(rt, "all cells", Base::Cells, ONE_MORE, steps)?;
+    play(rt, "all rows", Base::Rows, ONE_MORE, steps)
 }
 
 /// Prints what a few batches change, on programs that are known, and in how many steps that is found.
@@ -175,7 +141,7 @@ pub fn print_known<L: Ledger, R: Print + AllocGlobal>(
     rt: &R,
     steps: &mut Steps<L>,
 ) -> Result<(), Fault> {
-    play(rt, "a diamond", Base::Diamond, &ON_THE_DIAMOND, steps)?;
-    play(rt, "a star", Base::Star, &ON_THE_STAR, steps)?;
+    play(rt, "a diamond", Base::Diamond, ON_THE_DIAMOND, steps)?;
+    play(rt, "a star", Base::Star, ON_THE_STAR, steps)?;
     print_limits(rt, steps)
 }

@@ -15,7 +15,7 @@ const PROGRAMS: u16 = 60;
 const BATCHES: u16 = 50;
 
 /// What was met.
-#[derive(Clone, Copy, Debug, Default)]
+#[derive(Clone, Copy, Default)]
 pub struct Met {
     /// The batches that were accepted and kept.
     pub kept: u32,

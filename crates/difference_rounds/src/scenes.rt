@@ -3,44 +3,8 @@ use dt_definitions::Batch;
 use dt_trials::Fault;
 use std::alloc::Global;
 
-/// An edit, or two that belong together, of a selector of one argument or of a class.
-#[derive(Clone, Copy, Debug)]
-pub enum Known {
-    /// A definition comes.
-    Define {
-        selector: u16,
-        class: u16,
-        body: u16,
-    },
-    /// A definition goes.
-    Undefine {
-        selector: u16,
-        class: u16,
-    },
-    /// A selector comes, with a definition.
-    Defined {
-        selector: u16,
-        class: u16,
-    },
-    /// A link comes.
-    Link {
-        low: u16,
-        high: u16,
-    },
-    /// A link goes.
-    Unlink {
-        low: u16,
-        high: u16,
-    },
-    /// A class comes, with a parent.
-    Class {
-        number: u16,
-        parent: u16,
-    },
-}
-
 /// A program that one batch makes.
-#[derive(Clone, Copy, Debug)]
+#[derive(Clone, Copy)]
 pub enum Base {
     /// A class with two below it and one below both, and a selector that the two define.
     Diamond,
@@ -54,20 +18,60 @@ pub enum Base {
     Rows,
 }
 
-// Puts the edit last.
-fn put_known(alloc: Global, batch: &mut Batch, known: Known) -> Result<(), Fault> {
-    match known {
-        Known::Define {
-            selector,
-            class,
-            body,
-        } => put_define(batch, selector, &[class], body),
-        Known::Undefine { selector, class } => put_undefine(batch, selector, &[class]),
-        Known::Defined { selector, class } => put_defined(batch, selector, 1, &[class]),
-        Known::Link { low, high } => put_link(batch, low, high),
-        Known::Unlink { low, high } => put_unlink(batch, low, high),
-        Known::Class { number, parent } => put_class(alloc, batch, number, &[parent]),
+// The number that the word is, 0 where it is none.
+fn number_of(word: &str) -> u16 {
+    word.parse::<u16>().unwrap_or(0)
+}
+
+// Sets it, where there is such a place.
+fn set_number(numbers: &mut [u16; 3], place: usize, number: u16) {
+    if let Some(old) = numbers.get_mut(place) {
+        *old = number;
     }
+}
+
+// Up to three numbers of these words, the others 0.
+fn numbers_of(words: &str) -> [u16; 3] {
+    let mut numbers = [0; 3];
+    let mut place: usize = 0;
+    for word in words.split(' ') {
+        set_number(&mut numbers, place, number_of(word));
+        place = place.saturating_add(1);
+    }
+    numbers
+}
+
+// Puts last what the word does to the selector at the class.
+fn put_definition(
+    batch: &mut Batch,
+    word: &str,
+    selector: u16,
+    class: u16,
+    body: u16,
+) -> Result<(), Fault> {
+    if word == "define" {
+        return put_define(batch, selector, &[class], body);
+    }
+    if word == "undefine" {
+        return put_undefine(batch, selector, &[class]);
+    }
+    put_defined(batch, selector, 1, &[class])
+}
+
+// Puts the edit last.
+fn put_known(alloc: Global, batch: &mut Batch, words: &str) -> Result<(), Fault> {
+    let (word, rest) = words.split_once(' ').unwrap_or((words, ""));
+    let [first, second, third] = numbers_of(rest);
+    if word == "class" {
+        return put_class(alloc, batch, first, &[second]);
+    }
+    if word == "link" {
+        return put_link(batch, first, second);
+    }
+    if word == "unlink" {
+        return put_unlink(batch, first, second);
+    }
+    put_definition(batch, word, first, second, third)
 }
 
 // Puts a selector last, with a definition at these classes.
@@ -135,10 +139,12 @@ fn put_base(alloc: Global, batch: &mut Batch, base: Base) -> Result<(), Fault> {
     }
 }
 
-/// The batch of the edit.
-pub fn batch_of(alloc: Global, known: Known) -> Result<Batch, Fault> {
+/// The batch of an edit, or of two that belong together: a word and numbers. It is `define`, a selector of one argument, the
+/// class and the body; `undefine`, the selector and the class; `defined`, a selector that comes with a definition at the
+/// class; `link` or `unlink`, the lower class and the upper one; or `class`, a class that comes and its parent.
+pub fn batch_of(alloc: Global, words: &str) -> Result<Batch, Fault> {
     let mut batch = Batch::new(alloc);
-    put_known(alloc, &mut batch, known)?;
+    put_known(alloc, &mut batch, words)?;
     Ok(batch)
 }
 
