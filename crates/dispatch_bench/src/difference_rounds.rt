@@ -3,18 +3,16 @@ ghost use Rattle.std.specs.Prelude.{◌<◌};
 use crate::edit_kind::EditKind;
 use crate::figures::cost;
 use crate::metric::Metric;
-use crate::mix::Mix;
 use crate::single_edits::SingleEdits;
 use crate::sized_programs::{Difference, SizedPrograms};
-use crate::stopwatch::Stopwatch;
+use crate::stopwatch::{Stopwatch, put_cost};
 use crate::table::Table;
 use dt_definitions::{Batch, NoMemory};
 use dt_trials::Fault;
-use std::alloc::Global;
 use std::rt::Clock;
 
 /// What the changes of some edits come to.
-#[derive(Clone, Copy, Debug)]
+#[derive(Clone, Copy)]
 pub struct Found {
     /// How many edits there are.
     pub edits: u32,
@@ -72,7 +70,7 @@ fn time_changes(
     if !programs.try_batch(batch)? {
         return Ok(());
     }
-    let watch = Stopwatch::start(rt)?;
+    let watch = Stopwatch::start(rt);
     if let Some(difference) = programs.difference(batch)? {
         found.add(&difference, watch.nanoseconds(rt)?);
         programs.accept(difference.sizes);
@@ -81,30 +79,39 @@ fn time_changes(
 }
 
 // Puts what was found into the table, for each edit, and into the mix.
-fn put_found(
-    table: &mut Table,
-    kind: EditKind,
-    found: Found,
-    mix: &mut Mix,
-) -> Result<(), NoMemory> {
-    let Found {
-        edits,
-        changes,
-        steps,
-        nanoseconds,
-    } = found;
-    if edits == 0 {
-        return Ok(());
+fn put_found(table: &mut Table, kind: EditKind, found: Found) {
+    if found.edits == 0 {
+        return;
     }
-    mix.add((changes % (1 << 32)) as u32);
-    mix.add((steps % (1 << 32)) as u32);
-    let metric = Metric::Changes { kind };
+    table.mix.add((found.changes % (1 << 32)) as u32);
+    table.mix.add((found.steps % (1 << 32)) as u32);
+    put_cost(
+        table,
+        Metric::Changes { kind },
+        found.nanoseconds,
+        found.edits,
+    );
     table.put(
-        metric,
-        cost(nanoseconds, metric.unit().nanoseconds(), edits),
-    )?;
-    table.put(Metric::ChangeCount { kind }, cost(changes, 1, edits))?;
-    table.put(Metric::StepCount { kind }, cost(steps, 1, edits))
+        Metric::ChangeCount { kind },
+        cost(found.changes, 1, found.edits),
+    );
+    table.put(
+        Metric::StepCount { kind },
+        cost(found.steps, 1, found.edits),
+    );
+}
+
+// Times the changes of the batches into what was found.
+fn time_each(
+    rt: &impl Clock,
+    programs: &mut SizedPrograms,
+    batches: &[Batch],
+    found: &mut Found,
+) -> Result<(), Fault> {
+    for batch in batches {
+        time_changes(rt, programs, batch, found)?;
+    }
+    Ok(())
 }
 
 // Times the changes of the batches.
@@ -114,14 +121,11 @@ fn time_batches(
     programs: &mut SizedPrograms,
     kind: EditKind,
     batches: &[Batch],
-    mix: &mut Mix,
-) -> Result<(), Fault> {
+) {
     let mut found = Found::none();
-    for batch in batches {
-        time_changes(rt, programs, batch, &mut found)?;
-    }
-    put_found(table, kind, found, mix)?;
-    Ok(())
+    let timed = time_each(rt, programs, batches, &mut found);
+    table.keep(timed);
+    put_found(table, kind, found);
 }
 
 /// Applies the batches, and counts what they change.
@@ -136,11 +140,10 @@ pub fn count_all_changes(
     Ok(())
 }
 
-/// The two programs that these batches make, with their sizes.
-pub fn load_sized(alloc: Global, batches: &[Batch]) -> Result<SizedPrograms, NoMemory> {
-    let mut programs = SizedPrograms::new(alloc)?;
-    count_all_changes(&mut programs, batches, &mut Found::none())?;
-    Ok(programs)
+/// Applies the batches, and counts nothing.
+pub fn apply_sized(programs: &mut SizedPrograms, batches: &[Batch]) -> Result<(), Fault> {
+    count_all_changes(programs, batches, &mut Found::none())?;
+    Ok(())
 }
 
 /// Times the changes of edits, and undoes the edits.
@@ -149,12 +152,10 @@ pub fn time_differences(
     table: &mut Table,
     programs: &mut SizedPrograms,
     edits: &SingleEdits,
-    mix: &mut Mix,
-) -> Result<(), Fault> {
-    time_batches(rt, table, programs, edits.kind, &edits.batches, mix)?;
+) {
+    time_batches(rt, table, programs, edits.kind, &edits.batches);
     match edits.kind.undone_by() {
-        Some(kind) => time_batches(rt, table, programs, kind, &edits.undo, mix)?,
-        None => count_all_changes(programs, &edits.undo, &mut Found::none())?,
+        Some(kind) => time_batches(rt, table, programs, kind, &edits.undo),
+        None => table.keep(apply_sized(programs, &edits.undo)),
     }
-    Ok(())
 }

@@ -1,5 +1,5 @@
 /// The kinds of edits that are timed one to a batch.
-#[derive(Clone, Copy, Debug, PartialEq, Eq)]
+#[derive(Clone, Copy, PartialEq)]
 pub enum EditKind {
     /// Another body for a definition at classes with none below them.
     LeafRedefine,

@@ -212,6 +212,23 @@ fn draw_edit(
     }
 }
 
+// Draws edits of the kind, and puts them last.
+fn put_edits(
+    alloc: Global,
+    chance: &mut Chance,
+    generated: &Generated,
+    graph: &ClassGraph,
+    kind: EditKind,
+    edits: &mut Vec<Edit>,
+) -> Result<(), Fault> {
+    for number in 0..EDITS {
+        if let Some(edit) = draw_edit(alloc, chance, generated, graph, kind, number)? {
+            edits.push(edit)?;
+        }
+    }
+    Ok(())
+}
+
 // Draws edits of the kind.
 fn draw_edits(
     alloc: Global,
@@ -221,11 +238,7 @@ fn draw_edits(
     kind: EditKind,
 ) -> Result<Vec<Edit>, Fault> {
     let mut edits = Vec::new(alloc);
-    for number in 0..EDITS {
-        if let Some(edit) = draw_edit(alloc, chance, generated, graph, kind, number)? {
-            edits.push(edit)?;
-        }
-    }
+    put_edits(alloc, chance, generated, graph, kind, &mut edits)?;
     Ok(edits)
 }
 

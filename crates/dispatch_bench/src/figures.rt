@@ -3,18 +3,25 @@ ghost use Rattle.std.specs.Prelude.{◌<◌, length};
 use std::fmt;
 use std::time::Duration;
 
-/// A number of thousandths, written with three decimals.
-#[derive(Clone, Copy, Debug, PartialEq, Eq, PartialOrd, Ord)]
-pub struct Thousandths {
-    /// How many thousandths.
-    pub count: u64,
+/// A figure as it is written.
+#[derive(Clone, Copy)]
+pub enum Figure {
+    /// A whole number.
+    Whole { count: u64 },
+    /// So many thousandths, written with three decimals.
+    Thousandths { count: u64 },
 }
 
-impl fmt::Display for Thousandths {
+impl fmt::Display for Figure {
     fn fmt<W: fmt::Write>(&self, f: &mut fmt::Formatter<W>) -> fmt::Result {
-        let whole = self.count / 1000;
-        let part = self.count % 1000;
-        write!(f, "{whole}.{part:03}")
+        match *self {
+            Figure::Whole { count } => write!(f, "{count}"),
+            Figure::Thousandths { count } => {
+                let whole = count / 1000;
+                let part = count % 1000;
+                write!(f, "{whole}.{part:03}")
+            }
+        }
     }
 }
 
@@ -32,7 +39,7 @@ pub fn nanoseconds(time: Duration) -> u64 {
 }
 
 /// The median, the least and the greatest of the figures of some rounds.
-#[derive(Clone, Copy, Debug)]
+#[derive(Clone, Copy)]
 pub struct Summary {
     /// The one in the middle, or the upper one of the two.
     pub median: u64,

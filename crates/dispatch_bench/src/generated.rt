@@ -1,9 +1,10 @@
 use crate::size::Size;
 use dt_definitions::{Batch, BodyNo, ClassNo, Edit, SelNo, Tuple};
 use dt_outside::SureSource;
-use dt_script::{CALLERS, Script, ScriptFault, make_script, read_script};
+use dt_script::{CALLERS, Phase, Script, ScriptFault, make_script, read_script};
 use dt_trials::Fault;
 use std::alloc::Global;
+use std::mem;
 
 /// A generated program.
 #[derive(Drop)]
@@ -31,10 +32,10 @@ fn read_text(alloc: Global, text: Vec<u8>) -> Result<Script, Fault> {
     }
 }
 
-// The batches of the first phase.
-fn first_batches(alloc: Global, script: Script) -> Vec<Batch> {
-    match script.phases.into_iter().next() {
-        Some(phase) => phase.edits,
+// Takes the batches of the first phase.
+fn take_batches(alloc: Global, phases: &mut [Phase]) -> Vec<Batch> {
+    match phases.first_mut() {
+        Some(phase) => mem::replace(&mut phase.edits, Vec::new(alloc)),
         None => Vec::new(alloc),
     }
 }
@@ -42,8 +43,8 @@ fn first_batches(alloc: Global, script: Script) -> Vec<Batch> {
 // The batches that make the generated program of this number and size.
 fn make_batches(alloc: Global, number: u32, size: Size) -> Result<Vec<Batch>, Fault> {
     let text = make_script(alloc, number, size.classes, size.selectors)?;
-    let script = read_text(alloc, text)?;
-    Ok(first_batches(alloc, script))
+    let mut script = read_text(alloc, text)?;
+    Ok(take_batches(alloc, &mut script.phases))
 }
 
 // The edit of this number, from 0, among those of all batches.

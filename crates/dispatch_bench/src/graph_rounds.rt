@@ -1,13 +1,11 @@
 ghost use Rattle.std.specs.Prelude.{◌≤◌};
 ghost use Rattle.dt_graph.specs.declared.limits.TheConstants.{CLASSES};
 
-use crate::figures::cost;
 use crate::metric::Metric;
-use crate::mix::Mix;
-use crate::program_rounds::{ROUNDS, time_pairs};
+use crate::program_rounds::{ROUNDS, operations, time_pairs};
 use crate::queries::random_pairs;
 use crate::shape::Shape;
-use crate::stopwatch::Stopwatch;
+use crate::stopwatch::{Stopwatch, put_cost};
 use crate::table::Table;
 use dt_graph::{CLASSES, ClassGraph, ClassNo};
 use dt_trials::{Chance, Fault};
@@ -20,7 +18,7 @@ const CHANGES: u32 = 16;
 const DESCENDANTS: u32 = 4;
 
 /// A shape, and how many classes a graph of it has.
-#[derive(Clone, Copy, Debug)]
+#[derive(Clone, Copy)]
 pub struct GraphPlan {
     /// The shape.
     pub shape: Shape,
@@ -43,7 +41,7 @@ impl GraphPlan {
 }
 
 // A change of a graph.
-#[derive(Clone, Copy, Debug)]
+#[derive(Clone, Copy)]
 enum LinkChange {
     Link { class: ClassNo, parent: ClassNo },
     Unlink { class: ClassNo, parent: ClassNo },
@@ -63,30 +61,34 @@ impl LinkChange {
     }
 }
 
-// Makes a change, and answers how many nanoseconds it took.
+// Makes a change, and puts how many nanoseconds it took into the sum.
 fn time_change(
     rt: &impl Clock,
+    table: &mut Table,
     graph: &mut ClassGraph,
     shape: Shape,
     change: LinkChange,
-    mix: &mut Mix,
-) -> Result<u64, Fault> {
-    let watch = Stopwatch::start(rt)?;
+    sum: &mut u64,
+) {
+    let watch = Stopwatch::start(rt);
     let accepted = change.make(graph, shape);
-    let time = watch.nanoseconds(rt)?;
-    mix.add(u32::from(accepted));
-    Ok(time)
+    let time = watch.nanoseconds(rt);
+    table.mix.add(u32::from(accepted));
+    match time {
+        Ok(time) => *sum = sum.saturating_add(time),
+        Err(fault) => table.fail(fault),
+    }
 }
 
 // A change, and what is measured by it.
-#[derive(Clone, Copy, Debug)]
+#[derive(Clone, Copy)]
 struct Timed {
     change: LinkChange,
     metric: Metric,
 }
 
 // A change and the one that undoes it.
-#[derive(Clone, Copy, Debug)]
+#[derive(Clone, Copy)]
 struct Pair {
     there: Timed,
     back: Timed,
@@ -99,52 +101,51 @@ fn time_changes(
     graph: &mut ClassGraph,
     shape: Shape,
     pair: Pair,
-    mix: &mut Mix,
-) -> Result<(), Fault> {
+) {
     let Pair { there, back } = pair;
-    let mut times: (u64, u64) = (0, 0);
+    let mut going: u64 = 0;
+    let mut coming: u64 = 0;
     for _ in 0..CHANGES {
-        times.0 = times
-            .0
-            .saturating_add(time_change(rt, graph, shape, there.change, mix)?);
-        times.1 = times
-            .1
-            .saturating_add(time_change(rt, graph, shape, back.change, mix)?);
+        time_change(rt, table, graph, shape, there.change, &mut going);
+        time_change(rt, table, graph, shape, back.change, &mut coming);
     }
-    let unit = there.metric.unit().nanoseconds();
-    table.put(there.metric, cost(times.0, unit, CHANGES))?;
-    table.put(back.metric, cost(times.1, unit, CHANGES))?;
-    Ok(())
+    put_cost(table, there.metric, going, CHANGES);
+    put_cost(table, back.metric, coming, CHANGES);
 }
 
-// Times the class in the middle of a chain: the link to it goes, untimed; then it goes and comes.
-fn time_middle(
-    rt: &impl Clock,
-    table: &mut Table,
-    graph: &mut ClassGraph,
-    plan: GraphPlan,
-    mix: &mut Mix,
-) -> Result<(), Fault> {
-    if plan.shape != Shape::Chain {
-        return Ok(());
-    }
-    let Some((class, parent)) = plan.shape.middle_link(plan.classes) else {
-        return Ok(());
-    };
-    let pair = Pair {
+// The class in the middle of a chain, which goes and comes.
+fn middle_class(class: ClassNo) -> Pair {
+    Pair {
         there: Timed {
-            change: LinkChange::Drop { class: parent },
+            change: LinkChange::Drop { class },
             metric: Metric::DropMiddle,
         },
         back: Timed {
-            change: LinkChange::Add { class: parent },
+            change: LinkChange::Add { class },
             metric: Metric::AddMiddle,
         },
-    };
-    LinkChange::Unlink { class, parent }.make(graph, plan.shape);
-    time_changes(rt, table, graph, plan.shape, pair, mix)?;
-    LinkChange::Link { class, parent }.make(graph, plan.shape);
-    Ok(())
+    }
+}
+
+// Times the class in the middle of a chain: the link to it goes, untimed; then it goes and comes.
+fn time_middle(rt: &impl Clock, table: &mut Table, graph: &mut ClassGraph, plan: GraphPlan) {
+    if plan.shape != Shape::Chain {
+        return;
+    }
+    if let Some((class, parent)) = plan.shape.middle_link(plan.classes) {
+        LinkChange::Unlink { class, parent }.make(graph, plan.shape);
+        time_changes(rt, table, graph, plan.shape, middle_class(parent));
+        LinkChange::Link { class, parent }.make(graph, plan.shape);
+    }
+}
+
+// Finds the classes below this one some times, and answers how many there are.
+fn find_below(graph: &ClassGraph, class: ClassNo, below: &mut Vec<ClassNo>) -> Result<u32, Fault> {
+    for _ in 0..DESCENDANTS {
+        below.clear();
+        graph.descendants_into(class, below)?;
+    }
+    Ok(operations(below))
 }
 
 // Times the classes below the one in the middle.
@@ -154,16 +155,11 @@ fn time_descendants(
     graph: &ClassGraph,
     class: ClassNo,
     below: &mut Vec<ClassNo>,
-    mix: &mut Mix,
-) -> Result<(), Fault> {
-    let watch = Stopwatch::start(rt)?;
-    for _ in 0..DESCENDANTS {
-        below.clear();
-        graph.descendants_into(class, below)?;
-    }
-    watch.stop(rt, table, Metric::Descendants, DESCENDANTS)?;
-    mix.add(u32::try_from(below.len()).unwrap_or(u32::MAX));
-    Ok(())
+) {
+    let watch = Stopwatch::start(rt);
+    let found = find_below(graph, class, below);
+    watch.stop(rt, table, Metric::Descendants, DESCENDANTS);
+    table.add(found);
 }
 
 // The link in the middle that goes and comes, if there is one; in a star it comes and goes.
@@ -212,18 +208,16 @@ fn time_round(
     plan: GraphPlan,
     pairs: &Vec<(ClassNo, ClassNo)>,
     below: &mut Vec<ClassNo>,
-) -> Result<(), Fault> {
-    let mut mix = Mix::new();
+) {
     let middle = ClassNo::new(plan.classes / 2).unwrap();
-    time_pairs(rt, table, graph, pairs, &mut mix)?;
+    time_pairs(rt, table, graph, pairs);
     if let Some(pair) = middle_pair(plan) {
-        time_changes(rt, table, graph, plan.shape, pair, &mut mix)?;
+        time_changes(rt, table, graph, plan.shape, pair);
     }
-    time_changes(rt, table, graph, plan.shape, last_pair(plan), &mut mix)?;
-    time_middle(rt, table, graph, plan, &mut mix)?;
-    time_descendants(rt, table, graph, middle, below, &mut mix)?;
-    table.put(Metric::Mix, u64::from(mix.number()))?;
-    Ok(())
+    time_changes(rt, table, graph, plan.shape, last_pair(plan));
+    time_middle(rt, table, graph, plan);
+    time_descendants(rt, table, graph, middle, below);
+    table.end_round();
 }
 
 // Times the rounds of a graph.
@@ -236,7 +230,7 @@ fn time_rounds<R: Clock + AllocGlobal>(
 ) -> Result<(), Fault> {
     let mut below = Vec::with_capacity(rt.alloc(), usize::from(plan.classes))?;
     for _ in 0..ROUNDS {
-        time_round(rt, table, graph, plan, pairs, &mut below)?;
+        time_round(rt, table, graph, plan, pairs, &mut below);
     }
     Ok(())
 }

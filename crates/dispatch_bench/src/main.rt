@@ -60,12 +60,18 @@ use table_space::Region;
 use tiny::print_counts;
 use words::{Command, read_command};
 
-// The words after the program's name.
-fn given_words<R: Env + AllocGlobal>(rt: &R) -> Result<Vec<String>, Fault> {
-    let mut words = Vec::new(rt.alloc());
+// Puts the words after the program's name last.
+fn put_words<R: Env + AllocGlobal>(rt: &R, words: &mut Vec<String>) -> Result<(), Fault> {
     for word in env::args(rt)?.skip(1) {
         words.push(word)?;
     }
+    Ok(())
+}
+
+// The words after the program's name.
+fn given_words<R: Env + AllocGlobal>(rt: &R) -> Result<Vec<String>, Fault> {
+    let mut words = Vec::new(rt.alloc());
+    put_words(rt, &mut words)?;
     Ok(words)
 }
 
@@ -88,8 +94,7 @@ fn print_scratch<R: Print + Clock + Files + AllocGlobal>(
 ) -> Result<(), Fault> {
     let mut table = Table::new(rt.alloc());
     time_program(rt, &mut table, number, generated)?;
-    table.print(rt, name)?;
-    Ok(())
+    table.print(rt, name)
 }
 
 // Times a generated program with tables of this kind, and prints the figures under this name.
@@ -103,8 +108,7 @@ fn print_tables<R: Print + Clock + AllocGlobal, K: TableKind>(
 {
     let mut table = Table::new(rt.alloc());
     time_tables::<R, K>(rt, &mut table, &generated.batches, work)?;
-    table.print(rt, name)?;
-    Ok(())
+    table.print(rt, name)
 }
 
 // Times a generated program with tables of this kind, and prints the figures under a name of this word.
@@ -203,8 +207,7 @@ fn print_graph<R: Print + Clock + AllocGlobal>(
 ) -> Result<(), Fault> {
     let mut table = Table::new(rt.alloc());
     time_graph(rt, &mut table, plan)?;
-    table.print(rt, name)?;
-    Ok(())
+    table.print(rt, name)
 }
 
 // Times a selector with so many definitions, and prints the figures under this name.
@@ -215,8 +218,7 @@ fn print_selector<R: Print + Clock + AllocGlobal>(
 ) -> Result<(), Fault> {
     let mut table = Table::new(rt.alloc());
     time_selector(rt, &mut table, definitions)?;
-    table.print(rt, name)?;
-    Ok(())
+    table.print(rt, name)
 }
 
 // The name of the figures of a graph.

@@ -1,11 +1,12 @@
 ghost use Rattle.std.specs.Prelude.{◌<◌};
 
 use crate::edit_kind::EditKind;
+use crate::figures::Figure;
 use crate::query_kind::QueryKind;
 use std::fmt;
 
 /// The unit of a metric's figures.
-#[derive(Clone, Copy, Debug, PartialEq, Eq)]
+#[derive(Clone, Copy)]
 pub enum Unit {
     /// Thousand-millionths of a second.
     Nanoseconds,
@@ -34,6 +35,14 @@ impl Unit {
         }
     }
 
+    /// The figure of this count: of whole numbers itself, else of thousandths.
+    pub fn figure(self, count: u64) -> Figure {
+        match self {
+            Unit::Number => Figure::Whole { count },
+            _ => Figure::Thousandths { count },
+        }
+    }
+
     /// How many nanoseconds a unit of time is; 1 where it is no unit of time.
     pub fn nanoseconds(self) -> u32
         ensures { 0 < result }
@@ -47,7 +56,7 @@ impl Unit {
 }
 
 /// What is measured.
-#[derive(Clone, Copy, Debug, PartialEq, Eq)]
+#[derive(Clone, Copy, PartialEq)]
 pub enum Metric {
     /// A look-up from scratch.
     Resolve { kind: QueryKind },

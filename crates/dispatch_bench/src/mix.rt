@@ -1,7 +1,7 @@
 use dt_scratch::{Answer, Reply};
 
 /// A number that each answer of the timed work goes into, so that no answer can be left out.
-#[derive(Clone, Copy, Debug)]
+#[derive(Clone, Copy)]
 pub struct Mix {
     number: u32,
 }

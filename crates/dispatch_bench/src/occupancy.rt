@@ -1,10 +1,11 @@
 ghost use Rattle.std.specs.Prelude.{◌<◌, ◌≤◌};
 
-use crate::table_rounds::load_tabled;
+use crate::table_rounds::commit_all;
 use crate::table_space::Region;
 use dt_cells::TableKind;
 use dt_definitions::Batch;
 use dt_pages::Tree;
+use dt_tables::Tabled;
 use dt_trials::Fault;
 
 // So many cells make a block.
@@ -34,6 +35,18 @@ fn print_blocks(rt: &impl Print, name: &str, tree: &Tree, region: Region) -> Res
     Ok(())
 }
 
+// Makes the program by these batches, and prints how many cells of each block have an answer.
+fn print_loaded<K: TableKind>(
+    rt: &impl Print,
+    name: &str,
+    region: Region,
+    batches: &[Batch],
+    tabled: &mut Tabled<K>,
+) -> Result<(), Fault> {
+    commit_all(tabled, batches)?;
+    print_blocks(rt, name, tabled.tree(), region)
+}
+
 /// Prints how many of each 2,048 cells of the region have an answer, up to the last that has one, where the program that
 /// these batches make has a table of this kind.
 pub fn print_occupancy<R: Print + AllocGlobal, K: TableKind>(
@@ -44,6 +57,6 @@ pub fn print_occupancy<R: Print + AllocGlobal, K: TableKind>(
 ) -> Result<(), Fault>
     requires { 1 ≤ K.kind.most_low }
 {
-    let tabled = load_tabled::<K>(rt.alloc(), batches)?;
-    print_blocks(rt, name, tabled.tree(), region)
+    let mut tabled = Tabled::<K>::new(rt.alloc())?;
+    print_loaded(rt, name, region, batches, &mut tabled)
 }

@@ -2,7 +2,6 @@ use crate::edit_kind::EditKind;
 use crate::edits::{Trial, draw_trials, refused_batch};
 use crate::generated::Generated;
 use crate::metric::Metric;
-use crate::mix::Mix;
 use crate::queries::{Queries, draw_all_queries, random_pairs};
 use crate::stopwatch::Stopwatch;
 use crate::table::Table;
@@ -82,151 +81,123 @@ fn memory<R: Files + AllocGlobal>(rt: &R) -> Result<u64, Fault> {
 }
 
 /// Times the queries, each found from scratch.
-pub fn time_queries(
-    rt: &impl Clock,
-    table: &mut Table,
-    program: &Program,
-    queries: &Queries,
-    mix: &mut Mix,
-) -> Result<(), Fault> {
+pub fn time_queries(rt: &impl Clock, table: &mut Table, program: &Program, queries: &Queries) {
     let kind = queries.kind;
-    let count = operations(&queries.calls);
-    if count == 0 {
-        return Ok(());
-    }
-    let watch = Stopwatch::start(rt)?;
-    resolve_all(program, &queries.calls, mix);
-    watch.stop(rt, table, Metric::Resolve { kind }, count)
+    let watch = Stopwatch::start(rt);
+    resolve_all(program, &queries.calls, &mut table.mix);
+    watch.stop(
+        rt,
+        table,
+        Metric::Resolve { kind },
+        operations(&queries.calls),
+    );
 }
 
-// Times the edits.
+// Times the edits, if there are any.
 fn time_edits(
     rt: &impl Clock,
     table: &mut Table,
     kind: EditKind,
     program: &mut Program,
     edits: &Vec<Edit>,
-    mix: &mut Mix,
-) -> Result<(), Fault> {
+) {
     let count = operations(edits);
     if count == 0 {
-        return Ok(());
+        return;
     }
-    let watch = Stopwatch::start(rt)?;
-    mix.add(apply_all(program, edits)?);
-    watch.stop(rt, table, Metric::Edit { kind }, count)
+    let watch = Stopwatch::start(rt);
+    let accepted = apply_all(program, edits);
+    watch.stop(rt, table, Metric::Edit { kind }, count);
+    table.add(accepted);
 }
 
 // Times the edits, and undoes them.
-fn time_trial(
-    rt: &impl Clock,
-    table: &mut Table,
-    program: &mut Program,
-    trial: &Trial,
-    mix: &mut Mix,
-) -> Result<(), Fault> {
-    time_edits(rt, table, trial.kind, program, &trial.edits, mix)?;
+fn time_trial(rt: &impl Clock, table: &mut Table, program: &mut Program, trial: &Trial) {
+    time_edits(rt, table, trial.kind, program, &trial.edits);
     match trial.kind.undone_by() {
-        Some(kind) => time_edits(rt, table, kind, program, &trial.undo, mix),
-        None => {
-            mix.add(apply_all(program, &trial.undo)?);
-            Ok(())
-        }
+        Some(kind) => time_edits(rt, table, kind, program, &trial.undo),
+        None => table.add(apply_all(program, &trial.undo)),
     }
+}
+
+// How many definitions the program has, if there is one. It goes.
+fn definitions_of(program: Result<Program, Fault>) -> Result<u32, Fault> {
+    match program {
+        Ok(program) => Ok(program.definitions()),
+        Err(fault) => Err(fault),
+    }
+}
+
+// A copy of the program.
+fn copy_of(program: &Program) -> Result<Program, Fault> {
+    Ok(program.copy()?)
 }
 
 // Times the load of a program by its batches.
-fn time_load<R: Clock + AllocGlobal>(
-    rt: &R,
-    table: &mut Table,
-    batches: &[Batch],
-    mix: &mut Mix,
-) -> Result<(), Fault> {
-    let watch = Stopwatch::start(rt)?;
-    let program = load(rt.alloc(), batches)?;
-    watch.stop(rt, table, Metric::Load, 1)?;
-    mix.add(program.definitions());
-    Ok(())
+fn time_load<R: Clock + AllocGlobal>(rt: &R, table: &mut Table, batches: &[Batch]) {
+    let watch = Stopwatch::start(rt);
+    let program = load(rt.alloc(), batches);
+    watch.stop(rt, table, Metric::Load, 1);
+    table.add(definitions_of(program));
 }
 
 // Times a copy of the program.
-fn time_copy(
-    rt: &impl Clock,
-    table: &mut Table,
-    program: &Program,
-    mix: &mut Mix,
-) -> Result<(), Fault> {
-    let watch = Stopwatch::start(rt)?;
-    let copy = program.copy()?;
-    watch.stop(rt, table, Metric::Copy, 1)?;
-    mix.add(copy.definitions());
-    Ok(())
+fn time_copy(rt: &impl Clock, table: &mut Table, program: &Program) {
+    let watch = Stopwatch::start(rt);
+    let copy = copy_of(program);
+    watch.stop(rt, table, Metric::Copy, 1);
+    table.add(definitions_of(copy));
+}
+
+// Applies the batch, and answers the number of the edit that is refused; 0 where none is.
+fn refused_at(program: &mut Program, batch: &Batch) -> Result<u32, Fault> {
+    match program.apply_batch(batch) {
+        Ok(()) => Ok(0),
+        Err(BatchFault::Refused { at, .. }) => Ok(at),
+        Err(BatchFault::NoMemory) => Err(Fault::NoMemory),
+    }
 }
 
 // Times a batch that is refused, which leaves the program as it is.
-fn time_refused(
-    rt: &impl Clock,
-    table: &mut Table,
-    program: &mut Program,
-    batch: &Batch,
-    mix: &mut Mix,
-) -> Result<(), Fault> {
-    let watch = Stopwatch::start(rt)?;
+fn time_refused(rt: &impl Clock, table: &mut Table, program: &mut Program, batch: &Batch) {
+    let watch = Stopwatch::start(rt);
     for _ in 0..BATCHES {
-        match program.apply_batch(batch) {
-            Ok(()) => mix.add(0),
-            Err(BatchFault::Refused { at, .. }) => mix.add(at),
-            Err(BatchFault::NoMemory) => return Err(Fault::NoMemory),
-        }
+        table.add(refused_at(program, batch));
     }
-    watch.stop(rt, table, Metric::RefusedBatch, BATCHES)
+    watch.stop(rt, table, Metric::RefusedBatch, BATCHES);
 }
 
-/// Times the pairs of classes.
+/// Times the pairs of classes, if there are any.
 pub fn time_pairs(
     rt: &impl Clock,
     table: &mut Table,
     graph: &ClassGraph,
     pairs: &Vec<(ClassNo, ClassNo)>,
-    mix: &mut Mix,
-) -> Result<(), Fault> {
+) {
     let count = operations(pairs);
     if count == 0 {
-        return Ok(());
+        return;
     }
-    let watch = Stopwatch::start(rt)?;
+    let watch = Stopwatch::start(rt);
     let below = count_below(graph, pairs);
-    watch.stop(rt, table, Metric::IsBelow, count)?;
-    mix.add(u32::try_from(below).unwrap_or(u32::MAX));
-    Ok(())
+    watch.stop(rt, table, Metric::IsBelow, count);
+    table.mix.add(u32::try_from(below).unwrap_or(u32::MAX));
 }
 
 // Times the look-ups of a round.
-fn time_asked(
-    rt: &impl Clock,
-    table: &mut Table,
-    program: &Program,
-    asked: &Asked,
-    mix: &mut Mix,
-) -> Result<(), Fault> {
+fn time_asked(rt: &impl Clock, table: &mut Table, program: &Program, asked: &Asked) {
     for queries in &asked.queries {
-        time_queries(rt, table, program, queries, mix)?;
+        time_queries(rt, table, program, queries);
     }
-    time_pairs(rt, table, program.graph(), &asked.pairs, mix)
+    time_pairs(rt, table, program.graph(), &asked.pairs);
 }
 
 // Times the edits of a round, each kind on the program as it was.
-fn time_edited(
-    rt: &impl Clock,
-    table: &mut Table,
-    program: &mut Program,
-    edited: &Edited,
-    mix: &mut Mix,
-) -> Result<(), Fault> {
+fn time_edited(rt: &impl Clock, table: &mut Table, program: &mut Program, edited: &Edited) {
     for trial in &edited.trials {
-        time_trial(rt, table, program, trial, mix)?;
+        time_trial(rt, table, program, trial);
     }
-    time_refused(rt, table, program, &edited.refused, mix)
+    time_refused(rt, table, program, &edited.refused);
 }
 
 // Times a round.
@@ -237,14 +208,12 @@ fn time_round<R: Clock + AllocGlobal>(
     batches: &[Batch],
     asked: &Asked,
     edited: &Edited,
-) -> Result<(), Fault> {
-    let mut mix = Mix::new();
-    time_asked(rt, table, program, asked, &mut mix)?;
-    time_edited(rt, table, program, edited, &mut mix)?;
-    time_load(rt, table, batches, &mut mix)?;
-    time_copy(rt, table, program, &mut mix)?;
-    table.put(Metric::Mix, u64::from(mix.number()))?;
-    Ok(())
+) {
+    time_asked(rt, table, program, asked);
+    time_edited(rt, table, program, edited);
+    time_load(rt, table, batches);
+    time_copy(rt, table, program);
+    table.end_round();
 }
 
 // Times the rounds of a program.
@@ -255,11 +224,10 @@ fn time_rounds<R: Clock + AllocGlobal>(
     batches: &[Batch],
     asked: &Asked,
     edited: &Edited,
-) -> Result<(), Fault> {
+) {
     for _ in 0..ROUNDS {
-        time_round(rt, table, program, batches, asked, edited)?;
+        time_round(rt, table, program, batches, asked, edited);
     }
-    Ok(())
 }
 
 // Draws the edits for a program, and times its rounds.
@@ -272,7 +240,8 @@ fn time_drawn<R: Clock + AllocGlobal>(
     asked: &Asked,
 ) -> Result<(), Fault> {
     let edited = draw_edited(rt.alloc(), chance, generated, program)?;
-    time_rounds(rt, table, program, &generated.batches, asked, &edited)
+    time_rounds(rt, table, program, &generated.batches, asked, &edited);
+    Ok(())
 }
 
 // Draws the work for a program, and times it.
@@ -287,6 +256,20 @@ fn time_loaded<R: Clock + AllocGlobal>(
     time_drawn(rt, table, chance, generated, program, &asked)
 }
 
+// Times a program that was just loaded, after its memory is taken.
+fn time_resident<R: Clock + Files + AllocGlobal>(
+    rt: &R,
+    table: &mut Table,
+    chance: &mut Chance,
+    generated: &Generated,
+    program: &mut Program,
+) -> Result<(), Fault> {
+    let memory = memory(rt)?;
+    time_loaded(rt, table, chance, generated, program)?;
+    table.put(Metric::Memory, memory);
+    Ok(())
+}
+
 // Loads a program by its batches, and times it.
 fn time_batches<R: Clock + Files + AllocGlobal>(
     rt: &R,
@@ -295,10 +278,7 @@ fn time_batches<R: Clock + Files + AllocGlobal>(
     generated: &Generated,
 ) -> Result<(), Fault> {
     let mut program = load(rt.alloc(), &generated.batches)?;
-    let memory = memory(rt)?;
-    time_loaded(rt, table, chance, generated, &mut program)?;
-    table.put(Metric::Memory, memory)?;
-    Ok(())
+    time_resident(rt, table, chance, generated, &mut program)
 }
 
 /// Times the generated program of this number.

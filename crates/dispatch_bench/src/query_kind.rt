@@ -1,5 +1,5 @@
 /// The kinds of look-ups that are timed.
-#[derive(Clone, Copy, Debug, PartialEq, Eq)]
+#[derive(Clone, Copy, PartialEq)]
 pub enum QueryKind {
     /// With one argument, answered by a method.
     HitsOfOne,

@@ -97,103 +97,72 @@ fn program(alloc: Global, count: u16) -> Result<Program, Fault> {
     load(alloc, &batches)
 }
 
-// Times an edit.
+// Times an edit of the kind.
 fn time_edit(
     rt: &impl Clock,
     table: &mut Table,
-    metric: Metric,
+    kind: EditKind,
     program: &mut Program,
     edit: &Edit,
-    mix: &mut Mix,
-) -> Result<(), Fault> {
-    let watch = Stopwatch::start(rt)?;
-    let accepted = is_applied(program, edit)?;
-    watch.stop(rt, table, metric, 1)?;
-    mix.add(u32::from(accepted));
-    Ok(())
+) {
+    let watch = Stopwatch::start(rt);
+    let accepted = is_applied(program, edit);
+    watch.stop(rt, table, Metric::Edit { kind }, 1);
+    match accepted {
+        Ok(accepted) => table.mix.add(u32::from(accepted)),
+        Err(fault) => table.fail(fault),
+    }
+}
+
+// Times a definition that comes and goes again, some times.
+fn time_pair(rt: &impl Clock, table: &mut Table, program: &mut Program, edit: &Edit, undo: &Edit) {
+    for _ in 0..CHANGES {
+        time_edit(rt, table, EditKind::Define, program, edit);
+        time_edit(rt, table, EditKind::Undefine, program, undo);
+    }
+}
+
+// The end of the definition of the selector at these classes.
+fn undefine(first: u16, second: u16) -> Option<Edit> {
+    Some(Edit::Undefine {
+        selector: selector(),
+        classes: Tuple::new(&[class_of(first), class_of(second)])?,
+    })
 }
 
 // Times a definition that comes among the others, and goes again.
-fn time_definition(
-    rt: &impl Clock,
-    table: &mut Table,
-    program: &mut Program,
-    count: u16,
-    mix: &mut Mix,
-) -> Result<(), Fault> {
+fn time_definition(rt: &impl Clock, table: &mut Table, program: &mut Program, count: u16) {
     let (first, _) = leaves(count / 2);
-    let (Some(edit), Some(classes)) = (
-        define(first, 0, count),
-        Tuple::new(&[class_of(first), class_of(0)]),
-    ) else {
-        return Ok(());
-    };
-    let undo = Edit::Undefine {
-        selector: selector(),
-        classes,
-    };
-    for _ in 0..CHANGES {
-        time_edit(
-            rt,
-            table,
-            Metric::Edit {
-                kind: EditKind::Define,
-            },
-            program,
-            &edit,
-            mix,
-        )?;
-        time_edit(
-            rt,
-            table,
-            Metric::Edit {
-                kind: EditKind::Undefine,
-            },
-            program,
-            &undo,
-            mix,
-        )?;
+    if let Some(edit) = define(first, 0, count)
+        && let Some(undo) = undefine(first, 0)
+    {
+        time_pair(rt, table, program, &edit, &undo);
     }
-    Ok(())
 }
 
-// Times a call at the classes of each definition.
-fn time_calls(
-    rt: &impl Clock,
-    table: &mut Table,
-    program: &Program,
-    count: u16,
-    mix: &mut Mix,
-) -> Result<(), Fault> {
-    let watch = Stopwatch::start(rt)?;
+// Calls the selector at the classes of each definition; the mix takes each reply in.
+fn call_each(program: &Program, count: u16, mix: &mut Mix) {
     for number in 0..count {
         let (first, second) = leaves(number);
         if let Some(query) = Query::new(0, &[first, second]) {
             mix.add(code_of(resolve(program, &query)));
         }
     }
-    watch.stop(
-        rt,
-        table,
-        Metric::Resolve {
-            kind: QueryKind::HitsOfTwo,
-        },
-        u32::from(count).max(1),
-    )
+}
+
+// Times a call at the classes of each definition.
+fn time_calls(rt: &impl Clock, table: &mut Table, program: &Program, count: u16) {
+    let kind = QueryKind::HitsOfTwo;
+    let watch = Stopwatch::start(rt);
+    call_each(program, count, &mut table.mix);
+    watch.stop(rt, table, Metric::Resolve { kind }, u32::from(count).max(1));
 }
 
 // Times a round.
-fn time_round(
-    rt: &impl Clock,
-    table: &mut Table,
-    program: &mut Program,
-    count: u16,
-) -> Result<(), Fault> {
-    let mut mix = Mix::new();
-    time_calls(rt, table, program, count, &mut mix)?;
-    time_definition(rt, table, program, count, &mut mix)?;
-    table.put(Metric::Mix, u64::from(mix.number()))?;
-    Ok(())
+fn time_round(rt: &impl Clock, table: &mut Table, program: &mut Program, count: u16) {
+    time_calls(rt, table, program, count);
+    time_definition(rt, table, program, count);
+    table.end_round();
 }
 
 /// Times a selector with so many definitions, at most [`MOST`].
@@ -204,7 +173,7 @@ pub fn time_selector<R: Clock + AllocGlobal>(
 ) -> Result<(), Fault> {
     let mut program = program(rt.alloc(), count)?;
     for _ in 0..ROUNDS {
-        time_round(rt, table, &mut program, count)?;
+        time_round(rt, table, &mut program, count);
     }
     Ok(())
 }

@@ -8,7 +8,7 @@ use std::alloc::Global;
 const WIDTH: u16 = 16;
 
 /// How the classes of a graph hang together.
-#[derive(Clone, Copy, Debug, PartialEq, Eq)]
+#[derive(Clone, Copy, PartialEq)]
 pub enum Shape {
     /// Each class but the first has the one before it as its parent.
     Chain,

@@ -5,7 +5,7 @@ use dt_graph::CLASSES;
 use dt_selectors::SELECTORS;
 
 /// How many classes and selectors a generated program has.
-#[derive(Clone, Copy, Debug)]
+#[derive(Clone, Copy)]
 pub struct Size {
     /// The classes, from 2 to 2,048.
     pub classes: u16,

@@ -87,9 +87,10 @@ fn find_difference(
 impl SizedPrograms {
     /// Two empty programs.
     pub fn new(alloc: Global) -> Result<SizedPrograms, NoMemory> {
+        let programs = TwoPrograms::new(alloc)?;
         Ok(SizedPrograms {
             alloc,
-            programs: TwoPrograms::new(alloc)?,
+            programs,
             sizes: Sizes::none(),
         })
     }

@@ -1,6 +1,6 @@
 ghost use Rattle.std.specs.Prelude.{◌≤◌};
 
-use crate::difference_rounds::{load_sized, time_differences};
+use crate::difference_rounds::{apply_sized, time_differences};
 use crate::edit_kind::EditKind;
 use crate::generated::Generated;
 use crate::metric::Metric;
@@ -60,8 +60,8 @@ fn commit_batch<K: TableKind>(tabled: &mut Tabled<K>, batch: &Batch) -> Result<b
     }
 }
 
-// Commits the batches in order, and answers how many were accepted.
-fn commit_all<K: TableKind>(tabled: &mut Tabled<K>, batches: &[Batch]) -> Result<u32, Fault> {
+/// Commits the batches in order, and answers how many were accepted.
+pub fn commit_all<K: TableKind>(tabled: &mut Tabled<K>, batches: &[Batch]) -> Result<u32, Fault> {
     let mut accepted: u32 = 0;
     for batch in batches {
         if commit_batch(tabled, batch)? {
@@ -71,29 +71,31 @@ fn commit_all<K: TableKind>(tabled: &mut Tabled<K>, batches: &[Batch]) -> Result
     Ok(accepted)
 }
 
-/// The program that these batches make, with its table.
-pub fn load_tabled<K: TableKind>(alloc: Global, batches: &[Batch]) -> Result<Tabled<K>, Fault>
-    requires { 1 ≤ K.kind.most_low }
-{
-    let mut tabled = Tabled::<K>::new(alloc)?;
-    commit_all(&mut tabled, batches)?;
-    Ok(tabled)
+// Commits the batches, which ends the load that began with the watch.
+fn time_committed<K: TableKind>(
+    rt: &impl Clock,
+    table: &mut Table,
+    watch: Stopwatch,
+    tabled: &mut Tabled<K>,
+    batches: &[Batch],
+) {
+    let accepted = commit_all(tabled, batches);
+    watch.stop(rt, table, Metric::LoadTables, 1);
+    match accepted {
+        Ok(_) => table.mix.add(tabled.program().definitions()),
+        Err(fault) => table.fail(fault),
+    }
 }
 
 // Times the load of a program and its table by its batches.
-fn time_load<R: Clock + AllocGlobal, K: TableKind>(
-    rt: &R,
-    table: &mut Table,
-    batches: &[Batch],
-    mix: &mut Mix,
-) -> Result<(), Fault>
+fn time_load<R: Clock + AllocGlobal, K: TableKind>(rt: &R, table: &mut Table, batches: &[Batch])
     requires { 1 ≤ K.kind.most_low }
 {
-    let watch = Stopwatch::start(rt)?;
-    let tabled = load_tabled::<K>(rt.alloc(), batches)?;
-    watch.stop(rt, table, Metric::LoadTables, 1)?;
-    mix.add(tabled.program().definitions());
-    Ok(())
+    let watch = Stopwatch::start(rt);
+    match Tabled::<K>::new(rt.alloc()) {
+        Ok(mut tabled) => time_committed(rt, table, watch, &mut tabled, batches),
+        Err(_) => table.fail(Fault::NoMemory),
+    }
 }
 
 // Finds the queries in order; the mix takes each reply in.
@@ -109,34 +111,29 @@ fn time_finds<K: TableKind>(
     table: &mut Table,
     tabled: &mut Tabled<K>,
     queries: &Queries,
-    mix: &mut Mix,
-) -> Result<(), Fault> {
+) {
     let kind = queries.kind;
-    let count = operations(&queries.calls);
-    if count == 0 {
-        return Ok(());
-    }
-    let watch = Stopwatch::start(rt)?;
-    find_all(tabled, &queries.calls, mix);
-    watch.stop(rt, table, Metric::Find { kind }, count)
+    let watch = Stopwatch::start(rt);
+    find_all(tabled, &queries.calls, &mut table.mix);
+    watch.stop(rt, table, Metric::Find { kind }, operations(&queries.calls));
 }
 
-// Times the batches, each committed by itself.
+// Times the batches, if there are any, each committed by itself.
 fn time_commits<K: TableKind>(
     rt: &impl Clock,
     table: &mut Table,
     kind: EditKind,
     tabled: &mut Tabled<K>,
     batches: &Vec<Batch>,
-    mix: &mut Mix,
-) -> Result<(), Fault> {
+) {
     let count = operations(batches);
     if count == 0 {
-        return Ok(());
+        return;
     }
-    let watch = Stopwatch::start(rt)?;
-    mix.add(commit_all(tabled, batches)?);
-    watch.stop(rt, table, Metric::Commit { kind }, count)
+    let watch = Stopwatch::start(rt);
+    let accepted = commit_all(tabled, batches);
+    watch.stop(rt, table, Metric::Commit { kind }, count);
+    table.add(accepted);
 }
 
 // Times edits that are committed, and undoes them.
@@ -145,15 +142,11 @@ fn time_edits<K: TableKind>(
     table: &mut Table,
     tabled: &mut Tabled<K>,
     edits: &SingleEdits,
-    mix: &mut Mix,
-) -> Result<(), Fault> {
-    time_commits(rt, table, edits.kind, tabled, &edits.batches, mix)?;
+) {
+    time_commits(rt, table, edits.kind, tabled, &edits.batches);
     match edits.kind.undone_by() {
-        Some(kind) => time_commits(rt, table, kind, tabled, &edits.undo, mix),
-        None => {
-            mix.add(commit_all(tabled, &edits.undo)?);
-            Ok(())
-        }
+        Some(kind) => time_commits(rt, table, kind, tabled, &edits.undo),
+        None => table.add(commit_all(tabled, &edits.undo)),
     }
 }
 
@@ -163,13 +156,11 @@ fn time_lookups<K: TableKind>(
     table: &mut Table,
     tabled: &mut Tabled<K>,
     all: &[Queries],
-    mix: &mut Mix,
-) -> Result<(), Fault> {
+) {
     for queries in all {
-        time_queries(rt, table, tabled.program(), queries, mix)?;
-        time_finds(rt, table, tabled, queries, mix)?;
+        time_queries(rt, table, tabled.program(), queries);
+        time_finds(rt, table, tabled, queries);
     }
-    Ok(())
 }
 
 // Times the edits of a round: the finding of their changes, and that they are committed.
@@ -179,13 +170,28 @@ fn time_all_edits<K: TableKind>(
     tabled: &mut Tabled<K>,
     programs: &mut SizedPrograms,
     all: &[SingleEdits],
-    mix: &mut Mix,
-) -> Result<(), Fault> {
+) {
     for edits in all {
-        time_differences(rt, table, programs, edits, mix)?;
-        time_edits(rt, table, tabled, edits, mix)?;
+        time_differences(rt, table, programs, edits);
+        time_edits(rt, table, tabled, edits);
     }
-    Ok(())
+}
+
+// Times a round.
+fn time_round<R: Clock + AllocGlobal, K: TableKind>(
+    rt: &R,
+    table: &mut Table,
+    batches: &[Batch],
+    tabled: &mut Tabled<K>,
+    programs: &mut SizedPrograms,
+    work: &TableWork,
+)
+    requires { 1 ≤ K.kind.most_low }
+{
+    time_lookups(rt, table, tabled, &work.queries);
+    time_all_edits(rt, table, tabled, programs, &work.edits);
+    time_load::<R, K>(rt, table, batches);
+    table.end_round();
 }
 
 // Times the rounds.
@@ -196,16 +202,27 @@ fn time_rounds<R: Clock + AllocGlobal, K: TableKind>(
     tabled: &mut Tabled<K>,
     programs: &mut SizedPrograms,
     work: &TableWork,
-) -> Result<(), Fault>
+)
     requires { 1 ≤ K.kind.most_low }
 {
     for _ in 0..ROUNDS {
-        let mut mix = Mix::new();
-        time_lookups(rt, table, tabled, &work.queries, &mut mix)?;
-        time_all_edits(rt, table, tabled, programs, &work.edits, &mut mix)?;
-        time_load::<R, K>(rt, table, batches, &mut mix)?;
-        table.put(Metric::Mix, u64::from(mix.number()))?;
+        time_round(rt, table, batches, tabled, programs, work);
     }
+}
+
+// Applies the batches to the two programs, and times the work.
+fn time_sized<R: Clock + AllocGlobal, K: TableKind>(
+    rt: &R,
+    table: &mut Table,
+    batches: &[Batch],
+    tabled: &mut Tabled<K>,
+    programs: &mut SizedPrograms,
+    work: &TableWork,
+) -> Result<(), Fault>
+    requires { 1 ≤ K.kind.most_low }
+{
+    apply_sized(programs, batches)?;
+    time_rounds(rt, table, batches, tabled, programs, work);
     Ok(())
 }
 
@@ -219,9 +236,10 @@ fn time_tabled<R: Clock + AllocGlobal, K: TableKind>(
 ) -> Result<(), Fault>
     requires { 1 ≤ K.kind.most_low }
 {
-    Space::of(tabled.program(), tabled.tree()).put(table)?;
-    let mut programs = load_sized(rt.alloc(), batches)?;
-    time_rounds(rt, table, batches, tabled, &mut programs, work)
+    commit_all(tabled, batches)?;
+    Space::of(tabled.program(), tabled.tree()).put(table);
+    let mut programs = SizedPrograms::new(rt.alloc())?;
+    time_sized(rt, table, batches, tabled, &mut programs, work)
 }
 
 /// Times the program that these batches make, with tables of this kind.
@@ -233,6 +251,6 @@ pub fn time_tables<R: Clock + AllocGlobal, K: TableKind>(
 ) -> Result<(), Fault>
     requires { 1 ≤ K.kind.most_low }
 {
-    let mut tabled = load_tabled::<K>(rt.alloc(), batches)?;
+    let mut tabled = Tabled::<K>::new(rt.alloc())?;
     time_tabled(rt, table, batches, &mut tabled, work)
 }

@@ -4,12 +4,12 @@ use crate::metric::Metric;
 use crate::queries::takes;
 use crate::table::Table;
 use dt_cells::place_address;
-use dt_definitions::{NoMemory, Program};
+use dt_definitions::Program;
 use dt_pages::Tree;
 use dt_selectors::SELECTORS;
 
 /// A part of a table.
-#[derive(Clone, Copy, Debug, PartialEq, Eq)]
+#[derive(Clone, Copy)]
 pub enum Region {
     /// The cells of queries of one class, whatever the kind.
     Single,
@@ -47,7 +47,7 @@ impl Region {
 }
 
 /// The room that a table takes: its part for queries of one class, and the master array.
-#[derive(Clone, Copy, Debug)]
+#[derive(Clone, Copy)]
 pub struct Space {
     // The cells of queries of one class.
     single: Cells,
@@ -60,7 +60,7 @@ pub struct Space {
 }
 
 // How many cells a region has.
-#[derive(Clone, Copy, Debug)]
+#[derive(Clone, Copy)]
 struct Cells {
     // How many cells are not 0.
     used: u32,
@@ -101,11 +101,10 @@ fn highest_places(program: &Program, tree: &Tree) -> (u64, u64) {
 }
 
 // Puts the greatest place under this metric. What has no places has no line.
-fn put_highest(table: &mut Table, metric: Metric, place: u64) -> Result<(), NoMemory> {
-    if place == 0 {
-        return Ok(());
+fn put_highest(table: &mut Table, metric: Metric, place: u64) {
+    if place != 0 {
+        table.put(metric, place);
     }
-    table.put(metric, place)
 }
 
 impl Space {
@@ -129,12 +128,12 @@ impl Space {
     }
 
     /// Puts the numbers into the table. A part without places has no line for the highest.
-    pub fn put(self, table: &mut Table) -> Result<(), NoMemory> {
-        table.put(Metric::CellsUsed, u64::from(self.single.used))?;
-        table.put(Metric::CellsSpanned, u64::from(self.single.spanned))?;
-        put_highest(table, Metric::HighestPlace, self.highest_single)?;
-        table.put(Metric::MasterUsed, u64::from(self.master.used))?;
-        table.put(Metric::MasterSpanned, u64::from(self.master.spanned))?;
-        put_highest(table, Metric::MasterHighest, self.highest_master)
+    pub fn put(self, table: &mut Table) {
+        table.put(Metric::CellsUsed, u64::from(self.single.used));
+        table.put(Metric::CellsSpanned, u64::from(self.single.spanned));
+        put_highest(table, Metric::HighestPlace, self.highest_single);
+        table.put(Metric::MasterUsed, u64::from(self.master.used));
+        table.put(Metric::MasterSpanned, u64::from(self.master.spanned));
+        put_highest(table, Metric::MasterHighest, self.highest_master);
     }
 }

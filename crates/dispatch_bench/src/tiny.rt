@@ -1,21 +1,22 @@
-use crate::difference_rounds::{Found, count_all_changes, load_sized};
+use crate::difference_rounds::{Found, apply_sized, count_all_changes};
 use crate::edits::{Trial, draw_trials};
-use crate::figures::Thousandths;
+use crate::figures::Figure;
 use crate::generated::Generated;
 use crate::mix::{Mix, code_of};
 use crate::queries::{Queries, draw_all_queries, is_hit};
 use crate::shape::Shape;
 use crate::single_edits::{SingleEdits, draw_single_edits};
 use crate::size::Size;
+use crate::sized_programs::SizedPrograms;
 use crate::work::load;
-use dt_definitions::{Batch, Program};
+use dt_definitions::{Batch, ClassGraph, Program};
 use dt_scratch::resolve;
 use dt_trials::{Chance, Fault};
 use std::alloc::Global;
 use std::io;
 
 // What a generated program comes to, with nothing timed.
-#[derive(Clone, Copy, Debug, PartialEq, Eq)]
+#[derive(Clone, Copy)]
 struct Counts {
     // The definitions.
     definitions: u32,
@@ -96,15 +97,35 @@ fn draw_edits(alloc: Global, generated: &Generated) -> Result<Vec<SingleEdits>, 
     draw_single_edits(alloc, &mut Chance::new(1), generated, &mut program)
 }
 
+// Finds what these edits change, and what undoes them.
+fn count_each(
+    programs: &mut SizedPrograms,
+    all: &[SingleEdits],
+    found: &mut Found,
+) -> Result<(), Fault> {
+    for edits in all {
+        count_all_changes(programs, &edits.batches, found)?;
+        count_all_changes(programs, &edits.undo, found)?;
+    }
+    Ok(())
+}
+
+// Finds what these edits change, after these batches.
+fn count_after(
+    programs: &mut SizedPrograms,
+    batches: &[Batch],
+    all: &[SingleEdits],
+) -> Result<Found, Fault> {
+    let mut found = Found::none();
+    apply_sized(programs, batches)?;
+    count_each(programs, all, &mut found)?;
+    Ok(found)
+}
+
 // Finds what these edits of the program of these batches change, and what undoes them.
 fn find_changes(alloc: Global, batches: &[Batch], all: &[SingleEdits]) -> Result<Found, Fault> {
-    let mut programs = load_sized(alloc, batches)?;
-    let mut found = Found::none();
-    for edits in all {
-        count_all_changes(&mut programs, &edits.batches, &mut found)?;
-        count_all_changes(&mut programs, &edits.undo, &mut found)?;
-    }
-    Ok(found)
+    let mut programs = SizedPrograms::new(alloc)?;
+    count_after(&mut programs, batches, all)
 }
 
 // Finds what edits that are drawn change in a generated program.
@@ -113,14 +134,27 @@ fn draw_changes(alloc: Global, generated: &Generated) -> Result<Found, Fault> {
     find_changes(alloc, &generated.batches, &edits)
 }
 
-// Prints the first draws from 1, and how figures are written.
-fn print_draws(rt: &impl Print) -> io::Result<()> {
+// The first draws from 1.
+fn first_draws() -> (u16, u16, u16, u16, u16) {
     let mut chance = Chance::new(1);
     let (first, second, third) = (chance.below(100), chance.below(4), chance.below(4096));
     let (fourth, fifth) = (chance.below(2048), chance.below(7));
-    println!(rt; "draws from 1 | {first} {second} {third} {fourth} {fifth}")?;
-    let (zero, small) = (Thousandths { count: 0 }, Thousandths { count: 7 });
-    let large = Thousandths { count: 1_234_567 };
+    (first, second, third, fourth, fifth)
+}
+
+// Prints the first draws from 1.
+fn print_draws(rt: &impl Print) -> io::Result<()> {
+    let (first, second, third, fourth, fifth) = first_draws();
+    println!(rt; "draws from 1 | {first} {second} {third} {fourth} {fifth}")
+}
+
+// Prints how figures are written.
+fn print_written(rt: &impl Print) -> io::Result<()> {
+    let (zero, small) = (
+        Figure::Thousandths { count: 0 },
+        Figure::Thousandths { count: 7 },
+    );
+    let large = Figure::Thousandths { count: 1_234_567 };
     println!(rt; "figures | {zero} {small} {large}")
 }
 
@@ -161,17 +195,25 @@ fn print_changes<R: Print + AllocGlobal>(
     Ok(())
 }
 
+// Prints what a tiny program and edits of it come to.
+fn print_generated<R: Print + AllocGlobal>(
+    rt: &R,
+    number: u32,
+    generated: &Generated,
+) -> Result<(), Fault> {
+    print_counted(rt, number, generated)?;
+    print_changes(rt, number, generated)
+}
+
 // Prints the tiny program of this number and size.
 fn print_program<R: Print + AllocGlobal>(rt: &R, number: u32, size: Size) -> Result<(), Fault> {
     let generated = Generated::new(rt.alloc(), number, size)?;
-    print_counted(rt, number, &generated)?;
-    print_changes(rt, number, &generated)
+    print_generated(rt, number, &generated)
 }
 
-// Prints what a small graph comes to: how many classes are at or below the one in the middle, and whether its link in
-// the middle is there.
-fn print_graph<R: Print + AllocGlobal>(rt: &R, shape: Shape) -> Result<(), Fault> {
-    let graph = shape.graph(rt.alloc(), 100)?;
+// Prints what a graph of this shape with 100 classes comes to: how many classes are at or below the one in the middle, and
+// whether its link in the middle is there.
+fn print_middle(rt: &impl Print, shape: Shape, graph: &ClassGraph) -> Result<(), Fault> {
     let Some((class, parent)) = shape.middle_link(100) else {
         return Ok(());
     };
@@ -179,6 +221,12 @@ fn print_graph<R: Print + AllocGlobal>(rt: &R, shape: Shape) -> Result<(), Fault
     let word = shape.word();
     println!(rt; "graph {word} 100 | below the middle {below} | link in the middle {is_there}")?;
     Ok(())
+}
+
+// Prints what a small graph comes to.
+fn print_graph<R: Print + AllocGlobal>(rt: &R, shape: Shape) -> Result<(), Fault> {
+    let graph = shape.graph(rt.alloc(), 100)?;
+    print_middle(rt, shape, &graph)
 }
 
 // Prints the programs of this number and size, where they are in range.
@@ -194,6 +242,7 @@ fn print_programs<R: Print + AllocGlobal>(rt: &R) -> Result<(), Fault> {
 /// Prints what a run of nothing timed comes to.
 pub fn print_counts<R: Print + AllocGlobal>(rt: &R) -> Result<(), Fault> {
     print_draws(rt)?;
+    print_written(rt)?;
     print_programs(rt)?;
     for shape in [Shape::Chain, Shape::Star, Shape::Diamonds] {
         print_graph(rt, shape)?;

@@ -4,7 +4,7 @@ use crate::shape::Shape;
 use crate::size::Size;
 
 /// What the program is asked for.
-#[derive(Clone, Copy, Debug)]
+#[derive(Clone, Copy)]
 pub enum Command {
     /// Counts of a tiny program, with nothing timed.
     Count,

@@ -13,12 +13,18 @@ fn step_batch(program: &mut Program, batch: &Batch) -> Result<(), Fault> {
     }
 }
 
+// Applies the batches in order.
+fn step_batches(program: &mut Program, batches: &[Batch]) -> Result<(), Fault> {
+    for batch in batches {
+        step_batch(program, batch)?;
+    }
+    Ok(())
+}
+
 /// The program that these batches make.
 pub fn load(alloc: Global, batches: &[Batch]) -> Result<Program, Fault> {
     let mut program = Program::new(alloc)?;
-    for batch in batches {
-        step_batch(&mut program, batch)?;
-    }
+    step_batches(&mut program, batches)?;
     Ok(program)
 }
 
