@@ -27,6 +27,15 @@ the_state_after_1 : next_state 1 ≡ 7_806_831_264_735_756_412
 unfolding next_state
 the_state_after_1 = refl
 
+-- the greatest of its 64 bits is used, and what is past them is lost
+the_state_after_2 : next_state 2 ≡ 14_170_967_488_582_549_417
+unfolding next_state
+the_state_after_2 = refl
+
+the_state_after_3 : next_state 3 ≡ 2_088_359_638_719_790_806
+unfolding next_state
+the_state_after_3 = refl
+
 what_1_draws_below_100 : drawn 1 100 ≡ 74
 unfolding next_state number_of
 what_1_draws_below_100 = refl

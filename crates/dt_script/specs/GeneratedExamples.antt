@@ -1,15 +1,25 @@
 -- The script that is generated from 0 with two classes and one selector, and parts of others.
-use Rattle.std.specs.Prelude.{◌≡◌, [], ◌∷◌, ◌++◌, codes, length, refl}
+use Rattle.std.specs.Prelude.{◌≡◌, ◌-◌, [], ◌∷◌, ◌++◌, codes, drop, length, map, take, refl}
 use Rattle.std.specs.Fmt.{digits}
 use Rattle.dt_script.specs.Draw.{next_state, number_of, state_after}
-use Rattle.dt_script.specs.GeneratedLines.{lines_in_turn, class_lines, selector_line, selector_lines, definition_line, definition_lines, after_classes, after_program, call_line, after_call, after_callers, first_parent, tuple_at, edit_line, after_edit, generated_lines}
+use Rattle.dt_script.specs.GeneratedLines.{lines_in_turn, class_lines, selector_line, selector_lines, definition_line, definition_lines, after_classes, after_program, call_line, after_call, after_callers, calling_lines, first_parent, tuple_at, edit_line, after_edit, generated_lines}
 use Rattle.dt_script.specs.GeneratedText.{text_of_lines}
-use Rattle.dt_script.specs.declared.line.Line.TheVariants.{AddClass, Begin, Commit}
+use Rattle.dt_script.specs.declared.line.Line.TheVariants.{AddClass, Begin, Commit, Phase, Caller}
 
 -- its classes
 two_classes : class_lines 0 2 ≡ Begin ∷ AddClass 0 [] ∷ AddClass 1 (0 ∷ []) ∷ Commit ∷ []
 unfolding next_state number_of state_after lines_in_turn
 two_classes = refl
+
+-- five classes of 2, two of which have a second parent, and their first parents as edits name them
+five_classes : class_lines 2 5
+    ≡ Begin ∷ AddClass 0 [] ∷ AddClass 1 (0 ∷ []) ∷ AddClass 2 (0 ∷ 1 ∷ []) ∷ AddClass 3 (2 ∷ 0 ∷ []) ∷ AddClass 4 (1 ∷ []) ∷ Commit ∷ []
+unfolding next_state number_of state_after lines_in_turn
+five_classes = refl
+
+first_parents : map (first_parent 2) (1 ∷ 2 ∷ 3 ∷ 4 ∷ []) ≡ 0 ∷ 0 ∷ 2 ∷ 1 ∷ []
+unfolding next_state number_of state_after
+first_parents = refl
 
 -- the text of its classes
 two_classes_text : text_of_lines (class_lines 0 2) ≡ codes "begin\nclass c0\nclass c1 < c0\ncommit\n"
@@ -40,6 +50,12 @@ four_edits_text : text_of_lines (lines_in_turn (edit_line (first_parent 0) (tupl
 unfolding next_state number_of state_after lines_in_turn digits
 four_edits_text = refl
 
+-- two edits of each kind, of six classes and two selectors: links and unlinks are of any class but the first
+eight_edits_text : text_of_lines (lines_in_turn (edit_line (λ class. class - 1) (λ definition. definition ∷ []) 6 2) after_edit 4 0 8)
+    ≡ codes "undefine s0 c2\ndefine s0 c4 -> b4\nlink c5 < c1\nunlink c1 < c0\nundefine s1 c5\ndefine s1 c1 -> b1\nlink c4 < c2\nunlink c2 < c1\n"
+unfolding next_state number_of lines_in_turn digits
+eight_edits_text = refl
+
 -- the 50th selector takes two arguments
 two_arguments_text : text_of_lines (selector_line 0 48 ++ selector_line 0 49) ≡ codes "selector s48 1\nselector s49 2\n"
 unfolding digits
@@ -55,3 +71,17 @@ batches_end = refl
 how_many_lines : length (generated_lines 0 2 1) ≡ 20_225
 unfolding next_state number_of state_after lines_in_turn
 how_many_lines = refl
+
+-- callers come before the edits, and are counted from 1; after the edits they go on where those left the state
+first_phase : take 2 (drop 13 (generated_lines 0 2 1)) ≡ Phase ∷ Caller 1 ∷ []
+unfolding next_state number_of state_after lines_in_turn
+first_phase = refl
+
+second_caller : take 1 (drop 2502 (calling_lines 2 1 0)) ≡ Caller 2 ∷ []
+unfolding next_state number_of state_after lines_in_turn
+second_caller = refl
+
+last_phase_text : text_of_lines (take 8 (drop 10_219 (generated_lines 0 2 1)))
+    ≡ codes "phase\ncaller 1\ncall s0 c1\ncall s0 c0\ncall s0 c0\ncall s0 c0\ncall s0 c0\ncall s0 c1\n"
+unfolding next_state number_of state_after lines_in_turn digits
+last_phase_text = refl

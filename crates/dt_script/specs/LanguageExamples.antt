@@ -7,8 +7,9 @@ use Rattle.dt_definitions.specs.declared.edit.Edit.TheVariants as edit
 use Rattle.dt_script.specs.NameBook.{NameBook}
 use Rattle.dt_script.specs.Place.{may_stand}
 use Rattle.dt_script.specs.Script.{edit_of}
-use Rattle.dt_script.specs.Named.{line_of}
-use Rattle.dt_script.specs.Writing.{line_text}
+use Rattle.dt_script.specs.Named.{line_of, is_line_named, line_of_call}
+use Rattle.dt_script.specs.Writing.{IsSpelling, line_text}
+use Rattle.dt_script.specs.declared.line.CallerLine.TheVariants as caller_line
 use Rattle.dt_script.specs.declared.line.Line.{Line}
 use Rattle.dt_script.specs.declared.line.Line.TheVariants.{Header, AddClass, DropClass, Link, Unlink, AddSelector, DropSelector, Define, Undefine, Begin, Commit, Phase, Caller, Call, Pin, Unpin, End}
 
@@ -36,6 +37,16 @@ other_lines : map (line_text some_names)
 unfolding digits
 other_lines = refl
 
+spelling_of_a_link : IsSpelling some_names (Link 2 0) (codes "link C < A")
+spelling_of_a_link = (codes "link" ∷ codes "C" ∷ codes "<" ∷ codes "A" ∷ [], (refl, (refl, (refl, (refl, tt)))), refl)
+
+-- whether its numbers have names
+named : is_line_named some_names (Link 2 0) ≡ true
+named = refl
+
+no_fourth_class : is_line_named some_names (Link 2 3) ≡ false
+no_fourth_class = refl
+
 -- ---- which edit each is
 
 abbrev lines_of_edits : List Line
@@ -59,6 +70,11 @@ no_edits = Header ∷ Begin ∷ Commit ∷ Phase ∷ Caller 1 ∷ Call (record {
 
 no_edit_of_another_line : map edit_of no_edits ≡ map (λ line. None) no_edits
 no_edit_of_another_line = refl
+
+-- and which line each of a caller is
+lines_of_callers : map line_of_call (caller_line.Call (record { selector = 1; classes = 2 ∷ [] }) ∷ caller_line.Pin ∷ caller_line.Unpin ∷ [])
+    ≡ Call (record { selector = 1; classes = 2 ∷ [] }) ∷ Pin ∷ Unpin ∷ []
+lines_of_callers = refl
 
 -- ---- where edits stand; the lines before them are given latest first
 

@@ -2,7 +2,7 @@
 use Rattle.std.specs.Prelude.{◌≡◌, ℕ, List, [], ◌∷◌, codes, get_or, true, false, refl}
 use Rattle.std.proofs.Common.{ap, arith}
 use Rattle.std.specs.Fmt.{digits}
-use Rattle.dt_script.specs.NameBook.{NameBook, empty_book}
+use Rattle.dt_script.specs.NameBook.{NameBook, empty_book, number_in}
 use Rattle.dt_script.specs.Growth.{GrewAtEnd}
 use Rattle.dt_script.specs.Word.{AreTexts}
 use Rattle.dt_script.specs.Line.{words_of, is_in_range, is_short, LineOf}
@@ -14,6 +14,13 @@ classes_alone classes = record { classes = classes; selectors = []; bodies = [] 
 
 abbrev of_each : List ℕ → List ℕ → List ℕ → NameBook
 of_each class selector body = record { classes = class ∷ []; selectors = selector ∷ []; bodies = body ∷ [] }
+
+-- a name's number is its place in its list, counted from 0
+first_name : number_in (codes "A" ∷ codes "B" ∷ []) (codes "A") ≡ 0
+first_name = refl
+
+second_name : number_in (codes "A" ∷ codes "B" ∷ []) (codes "B") ≡ 1
+second_name = refl
 
 header_line : LineOf (codes "dispatch 1") empty_book Header empty_book
 header_line = record {
@@ -111,7 +118,25 @@ five_classes = refl
 five_arguments : is_in_range (AddSelector 0 5) ≡ false
 five_arguments = refl
 
--- callers have 16 bits
+no_argument : is_in_range (AddSelector 0 0) ≡ false
+no_argument = refl
+
+four_classes_to_undefine : is_in_range (Undefine 0 (1 ∷ 2 ∷ 3 ∷ 4 ∷ [])) ≡ true
+four_classes_to_undefine = refl
+
+five_classes_to_undefine : is_in_range (Undefine 0 (1 ∷ 2 ∷ 3 ∷ 4 ∷ 5 ∷ [])) ≡ false
+five_classes_to_undefine = refl
+
+no_class_in_a_call : is_in_range (Call (record { selector = 0; classes = [] })) ≡ false
+no_class_in_a_call = refl
+
+five_classes_in_a_call : is_in_range (Call (record { selector = 0; classes = 1 ∷ 2 ∷ 3 ∷ 4 ∷ 5 ∷ [] })) ≡ false
+five_classes_in_a_call = refl
+
+-- callers have 16 bits, and so have numbers of arguments
+arguments_of_17_bits : is_short (AddSelector 0 65536) ≡ false
+arguments_of_17_bits = refl
+
 greatest_caller_of_16_bits : is_short (Caller 65535) ≡ true
 greatest_caller_of_16_bits = refl
 
@@ -121,6 +146,9 @@ caller_of_17_bits = refl
 -- the empty line has no meaning, and neither has a word that is none
 no_text_of_no_words : AreTexts empty_book (words_of End) [] → ⊥
 no_text_of_no_words texts = texts
+
+no_text_past_the_words : AreTexts empty_book (words_of End) (codes "end" ∷ codes "end" ∷ []) → ⊥
+no_text_past_the_words texts = texts.1
 
 end_is_not_begin : AreTexts empty_book (words_of Begin) (codes "end" ∷ []) → ⊥
 end_is_not_begin (same, none) = absurd cc

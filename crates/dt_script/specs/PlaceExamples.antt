@@ -123,6 +123,13 @@ pin_of_another = refl
 no_unpin_of_another : may_stand 8 (Caller 2 ∷ Pin ∷ Caller 1 ∷ Header ∷ []) Unpin ≡ false
 no_unpin_of_another = refl
 
+-- and keeps it whatever another pins and unpins
+pin_beside_another : may_stand 8 (Caller 1 ∷ Phase ∷ Pin ∷ Caller 2 ∷ Pin ∷ Caller 1 ∷ Header ∷ []) Unpin ≡ true
+pin_beside_another = refl
+
+pin_after_the_unpin_of_another : may_stand 8 (Caller 1 ∷ Phase ∷ Unpin ∷ Pin ∷ Caller 2 ∷ Pin ∷ Caller 1 ∷ Header ∷ []) Unpin ≡ true
+pin_after_the_unpin_of_another = refl
+
 pin_after_an_unpin : may_stand 8 (Unpin ∷ Pin ∷ Caller 1 ∷ Header ∷ []) Pin ≡ true
 pin_after_an_unpin = refl
 

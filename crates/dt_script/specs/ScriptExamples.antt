@@ -68,3 +68,14 @@ callers : script_of empty_book (Header ∷ Caller 2 ∷ Call (call_of 0) ∷ Pin
       } ∷ [];
     }
 callers = refl
+
+-- the lines of a caller end where those of the next begin
+next_caller : script_of empty_book (Header ∷ Caller 2 ∷ Pin ∷ Caller 1 ∷ Call (call_of 0) ∷ End ∷ [])
+    ≡ record {
+      names = empty_book;
+      phases = record {
+        edits = [];
+        callers = record { caller = 2; lines = caller_line.Pin ∷ [] } ∷ record { caller = 1; lines = caller_line.Call (call_of 0) ∷ [] } ∷ [];
+      } ∷ [];
+    }
+next_caller = refl
