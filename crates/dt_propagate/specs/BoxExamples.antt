@@ -8,7 +8,7 @@ use Rattle.dt_propagate.specs.Bounds.{firsts, laters, is_gained, newly_below, si
 use Rattle.dt_propagate.specs.Counts.{is_begun, is_begun_any, box_of, boxes_of}
 use Rattle.dt_propagate.specs.CandidateBoxes.{candidate_box}
 use Rattle.dt_propagate.specs.FinerMarks.{is_marked, are_named}
-use Rattle.dt_scratch.specs.Examples.{A, B, C, D, f, at, diamond}
+use Rattle.dt_scratch.specs.Examples.{A, B, C, D, f, at, diamond, diamond_graph, program_of}
 
 -- 1 or 2, then 3; and 2, then 3 or 4, one of which has to be marked
 abbrev low : Box
@@ -29,6 +29,9 @@ not_in_its_set = refl
 
 too_few : is_within [] low.sets false (2 ∷ []) ≡ false
 too_few = refl
+
+too_many : is_within [] low.sets false (2 ∷ 3 ∷ 3 ∷ []) ≡ false
+too_many = refl
 
 -- and where the box needs it, a marked class is among them
 none_is_marked : is_within (7 ∷ []) high.sets true (2 ∷ 4 ∷ []) ≡ false
@@ -71,6 +74,9 @@ two_times_one = refl
 begun : is_begun low.sets (2 ∷ []) ≡ true
 begun = refl
 
+not_in_the_first_set : is_begun low.sets (3 ∷ []) ≡ false
+not_in_the_first_set = refl
+
 none_is_left : is_begun low.sets (2 ∷ 3 ∷ []) ≡ false
 none_is_left = refl
 
@@ -81,6 +87,9 @@ begun_in_one = refl
 below_b_and_c : boxes_of diamond f
     ≡ record { sets = (B ∷ D ∷ []) ∷ []; needs_marked = false } ∷ record { sets = (C ∷ D ∷ []) ∷ []; needs_marked = false } ∷ []
 below_b_and_c = refl
+
+none_of_another_selector : boxes_of diamond 3 ≡ []
+none_of_another_selector = refl
 
 below_b : box_of diamond (at f B 10) ≡ record { sets = (B ∷ D ∷ []) ∷ []; needs_marked = false }
 below_b = refl
@@ -127,6 +136,10 @@ made_at_a = refl
 no_row_more : made_rows diamond with_a (record { selector = f; classes = A ∷ [] }) ≡ 0
 no_row_more = refl
 
+-- the first definition of a selector brings the row without a class
+first_row : made_rows (program_of diamond_graph []) diamond (record { selector = f; classes = B ∷ [] }) ≡ 1
+first_row = refl
+
 not_made_at_b : is_made diamond with_a (record { selector = f; classes = B ∷ [] }) ≡ false
 not_made_at_b = refl
 
@@ -150,8 +163,19 @@ one_more = refl
 three_and_three : size_gained diamond.graph linked.graph (C ∷ C ∷ []) ≡ 6
 three_and_three = refl
 
+-- what is new is counted in the new graph
+three_below_c : made_cells (program_of diamond_graph []) linked (record { selector = f; classes = C ∷ [] }) ≡ 3
+three_below_c = refl
+
+one_below_a_new_definition : cells_gained (program_of diamond_graph []) linked C ≡ 1
+one_below_a_new_definition = refl
+
 one_row_more : firsts_gained diamond.graph linked.graph (C ∷ C ∷ []) ≡ 1
 one_row_more = refl
+
+-- of three positions: B, and B with each class below C, and each of these three with B in the second
+seven_rows_more : firsts_gained diamond.graph linked.graph (C ∷ C ∷ C ∷ []) ≡ 7
+seven_rows_more = refl
 
 one_cell_more : cells_gained diamond linked C ≡ 1
 one_cell_more = refl

@@ -65,6 +65,14 @@ one_is_missing changes = let there = changes.queries.none_missing (asks f D) d_d
 b_is_none : AreDifferences diamond settled (record { query = asks f B; answer = Method 10 } ∷ []) → ⊥
 b_is_none changes = All-head (Differs diamond settled) (asks f B) [] changes.queries.each_holds refl
 
+-- nor where one stands twice, or with its old cell
+d_stands_twice : AreDifferences diamond settled (to_d ∷ to_d ∷ []) → ⊥
+d_stands_twice changes = let there : false ≡ true = changes.queries.ascending.0 in cc
+
+d_has_its_old_cell : AreDifferences diamond settled (record { query = asks f D; answer = Ambiguous } ∷ []) → ⊥
+d_has_its_old_cell changes =
+    tells_the_old (All-head (TellsNewCell settled) (record { query = asks f D; answer = Ambiguous }) [] changes.answers)
+
 -- at D the diamond is understood, at A it isn't
 understood_at_d : Understands diamond (asks f D)
 understood_at_d none = cc
@@ -75,6 +83,9 @@ not_at_a understood = understood refl
 -- so a selector by itself is a row, and with the class there is nothing left to go on by
 from_nothing : gone_on (record { selector = f; classes = [] }) (D ∷ []) ≡ asks f D
 from_nothing = refl
+
+after_its_classes : gone_on (asks f A) (B ∷ []) ≡ asks_two f A B
+after_its_classes = refl
 
 the_selector_is_a_row : IsRow diamond (record { selector = f; classes = [] })
 the_selector_is_a_row = (D ∷ [], record { some = λ none. cc; understood = understood_at_d })
