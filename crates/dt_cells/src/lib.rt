@@ -20,7 +20,7 @@ pub use cell::{answer_by_word, word_of_answer};
 pub use following::{first_table, follow};
 pub use head_words::{heads, heads_of_batch};
 pub use kind::TableKind;
-pub use laws::{law_of_kinds, cells_follow};
+pub use laws::{cells_follow, law_of_kinds};
 pub use pair::Pair;
 pub use pair_staged::PairStaged;
 pub use parts::{ForMoreClasses, ForOneClass};

@@ -7,7 +7,7 @@ ghost use Rattle.dt_cells.specs.Following.{IsTableOf};
 ghost use Rattle.dt_tables.specs.Words.{AreNextWords};
 
 use crate::what_follows::covered_changes;
-use dt_cells::{TableKind, follow, cells_follow};
+use dt_cells::{TableKind, cells_follow, follow};
 use dt_definitions::{Batch, TwoPrograms};
 use dt_pages::Tree;
 use dt_propagate::{ChangeFault, Sizes};
